@@ -1,0 +1,4 @@
+pub mod Priorities
+pub mod Sets
+pub mod Ids
+pub mod Theorem

@@ -1,0 +1,11 @@
+pub mod Find
+pub mod Counts
+pub mod Keeping
+pub mod Fields
+pub mod Stores
+pub mod LaidFields
+pub mod Facts
+pub mod Round
+pub mod Acts
+pub mod Held
+pub mod Fresh

@@ -1,0 +1,5 @@
+pub mod Keys
+pub mod Bytes
+pub mod Laid
+pub mod Inner
+pub mod Answers

@@ -1,0 +1,279 @@
+// `IndexQueue`'s calls over lent bytes. 1: the bytes are not whole. 13: sizes not allowed. 14: an insert not taken, with its key and value.
+// 15: a key without an entry. 16: a key whose value was handed back.
+use index_entries::change::free_entry;
+use index_entries::change::open_entries;
+use index_entries::change::queue_back;
+use index_entries::change::queue_front;
+use index_entries::change::spend;
+use index_entries::change::store_value;
+use index_entries::change::take_entry;
+use index_entries::change::unqueue;
+use index_entries::look::Held;
+use index_entries::look::Place;
+use index_entries::look::get_index;
+use index_entries::look::held_at;
+use index_entries::look::word;
+use index_whole::whole;
+ghost use mathlib.Core.Path.{_≡_};
+ghost use mathlib.Core.Bool.{true};
+ghost use Prim.Native.Nat.{_<_, _≤_};
+ghost use lib.ListN.{length};
+ghost use Rattle.state.specs.Result.{answer};
+ghost use Rattle.multi_cycle_list.specs.Lists.{first, last, row};
+ghost use Rattle.multi_cycle_list.specs.declared.inner.Answer as list-answer;
+ghost use Rattle.index_entries.specs.Keys.{found, missing, slot};
+ghost use Rattle.index_entries.specs.Bytes.{wholeB, read, entries, kMax};
+ghost use Rattle.index_queue.specs.Calls.{on, bytes, openedBytes, opening, contains, get, getMut, insert, insertNew, remove, front, back, keyAt, keyIn, enqueueFront, enqueueBack, dequeue, KeysMean};
+
+pub enum Answer {
+    Refused(u8),
+    NotTaken(u16, u32),
+    Done,
+    Nothing,
+    Key(u16),
+    Value(u32),
+    Holds(bool),
+}
+
+pub fn open(s: &mut [u8], k_max: u32, entries: u32) -> Answer
+    ensures { λ r. ⌜ (r ≡ answer (opening (length (now (s .entry))) «k_max» entries)) × (now (s .exit) ≡ openedBytes (now (s .entry)) (opening (length (now (s .entry))) «k_max» entries)) ⌝ }
+{
+    if 8191 < k_max {
+        return Answer::Refused(13);
+    }
+    if 222 < entries {
+        return Answer::Refused(13);
+    }
+    let k = k_max as usize;
+    let n = entries as usize;
+    if s.len() != 11 + 8 * n + 4 * ((k + 1) / 4) {
+        return Answer::Refused(1);
+    }
+    open_entries(s, k_max as u16, n);
+    Answer::Done
+}
+
+pub fn contains(s: &[u8], key: u16) -> Answer
+    ensures { λ r. ⌜ r ≡ answer (on (contains key) (now (s .entry))) ⌝ }
+{
+    if whole(s) {} else {
+        return Answer::Refused(1);
+    }
+    let p = get_index(s, key);
+    match p {
+        Place::At(_) => Answer::Holds(true),
+        Place::Nowhere => Answer::Holds(false),
+    }
+}
+
+pub fn get(s: &[u8], key: u16) -> Answer
+    ensures { λ r. ⌜ r ≡ answer (on (get key) (now (s .entry))) ⌝ }
+{
+    if whole(s) {} else {
+        return Answer::Refused(1);
+    }
+    let p = get_index(s, key);
+    match p {
+        Place::At(i) => {
+            let h = held_at(s, i);
+            match h {
+                Held::Value(_, v) => Answer::Value(v),
+                Held::Spent(_) => Answer::Nothing,
+                Held::Free => Answer::Nothing,
+            }
+        }
+        Place::Nowhere => Answer::Nothing,
+    }
+}
+
+// Stores `value` where the key has one, and tells whether.
+pub fn get_mut(s: &mut [u8], key: u16, value: u32) -> Answer
+    ensures { λ r. ⌜ (r ≡ answer (on (getMut key value) (now (s .entry)))) × (now (s .exit) ≡ bytes (now (s .entry)) (on (getMut key value) (now (s .entry)))) ⌝ }
+{
+    if whole(s) {} else {
+        return Answer::Refused(1);
+    }
+    let p = get_index(s, key);
+    match p {
+        Place::At(i) => {
+            let h = held_at(s, i);
+            match h {
+                Held::Value(_, _) => {
+                    store_value(s, i, value);
+                    Answer::Holds(true)
+                }
+                Held::Spent(_) => Answer::Holds(false),
+                Held::Free => Answer::Holds(false),
+            }
+        }
+        Place::Nowhere => Answer::Holds(false),
+    }
+}
+
+// A key that has no entry: the first free entry takes it.
+fn insert_new(s: &mut [u8], key: u16, value: u32) -> Answer
+    requires { ⌜ (wholeB (now s) ≡ true) × ((key ≤ kMax (now s)) × (found (read (now s)) key ≡ missing)) ⌝ }
+    ensures { λ r. ⌜ (r ≡ answer (insertNew key value (read (now (s .entry))) (row (read (now (s .entry)) .lists) 1))) × (now (s .exit) ≡ bytes (now (s .entry)) (insertNew key value (read (now (s .entry))) (row (read (now (s .entry)) .lists) 1))) ⌝ }
+{
+    let e = 8 + 2 * (s[3] as usize);
+    let f = multi_cycle_list::inner::inner_front(&s[2..e], 1);
+    match f {
+        multi_cycle_list::inner::Answer::Is(i) => {
+            take_entry(s, i as usize, key, value);
+            Answer::Nothing
+        }
+        multi_cycle_list::inner::Answer::Refused(_) => Answer::NotTaken(key, value),
+        multi_cycle_list::inner::Answer::Done => Answer::NotTaken(key, value),
+        multi_cycle_list::inner::Answer::Nothing => Answer::NotTaken(key, value),
+        multi_cycle_list::inner::Answer::Holds(_) => Answer::NotTaken(key, value),
+    }
+}
+
+pub fn insert(s: &mut [u8], key: u16, value: u32) -> Answer
+    ensures { λ r. ⌜ (r ≡ answer (on (insert key value) (now (s .entry)))) × (now (s .exit) ≡ bytes (now (s .entry)) (on (insert key value) (now (s .entry)))) ⌝ }
+{
+    if whole(s) {} else {
+        return Answer::Refused(1);
+    }
+    if word(s, 0) < key as usize {
+        return Answer::NotTaken(key, value);
+    }
+    let p = get_index(s, key);
+    match p {
+        Place::At(i) => {
+            let h = held_at(s, i);
+            match h {
+                Held::Value(k, v) => {
+                    spend(s, i, k);
+                    Answer::Value(v)
+                }
+                Held::Spent(_) => Answer::Refused(16),
+                Held::Free => Answer::Refused(16),
+            }
+        }
+        Place::Nowhere => insert_new(s, key, value),
+    }
+}
+
+pub fn remove(s: &mut [u8], key: u16) -> Answer
+    ensures { λ r. ⌜ (r ≡ answer (on (remove key) (now (s .entry)))) × (now (s .exit) ≡ bytes (now (s .entry)) (on (remove key) (now (s .entry)))) ⌝ }
+{
+    if whole(s) {} else {
+        return Answer::Refused(1);
+    }
+    let p = get_index(s, key);
+    match p {
+        Place::At(i) => {
+            let h = held_at(s, i);
+            match h {
+                Held::Value(k, v) => {
+                    free_entry(s, i, k);
+                    Answer::Value(v)
+                }
+                Held::Spent(_) => Answer::Refused(16),
+                Held::Free => Answer::Refused(16),
+            }
+        }
+        Place::Nowhere => Answer::Nothing,
+    }
+}
+
+// The key of the entry `i`.
+fn key_at(s: &[u8], i: usize) -> Answer
+    requires { ⌜ (wholeB (now s) ≡ true) × (i < entries (now s)) ⌝ }
+    ensures { λ r. ⌜ r ≡ keyIn (slot (read (now (s .entry))) i) ⌝ }
+{
+    let h = held_at(s, i);
+    match h {
+        Held::Value(k, _) => Answer::Key(k),
+        Held::Spent(k) => Answer::Key(k),
+        Held::Free => Answer::Nothing,
+    }
+}
+
+pub fn front(s: &[u8]) -> Answer
+    ensures { λ r. ⌜ r ≡ answer (on front (now (s .entry))) ⌝ }
+{
+    if whole(s) {} else {
+        return Answer::Refused(1);
+    }
+    let e = 8 + 2 * (s[3] as usize);
+    let f = multi_cycle_list::inner::inner_front(&s[2..e], 0);
+    match f {
+        multi_cycle_list::inner::Answer::Is(i) => key_at(s, i as usize),
+        multi_cycle_list::inner::Answer::Refused(_) => Answer::Nothing,
+        multi_cycle_list::inner::Answer::Done => Answer::Nothing,
+        multi_cycle_list::inner::Answer::Nothing => Answer::Nothing,
+        multi_cycle_list::inner::Answer::Holds(_) => Answer::Nothing,
+    }
+}
+
+pub fn back(s: &[u8]) -> Answer
+    ensures { λ r. ⌜ r ≡ answer (on back (now (s .entry))) ⌝ }
+{
+    if whole(s) {} else {
+        return Answer::Refused(1);
+    }
+    let e = 8 + 2 * (s[3] as usize);
+    let f = multi_cycle_list::inner::inner_back(&s[2..e], 0);
+    match f {
+        multi_cycle_list::inner::Answer::Is(i) => key_at(s, i as usize),
+        multi_cycle_list::inner::Answer::Refused(_) => Answer::Nothing,
+        multi_cycle_list::inner::Answer::Done => Answer::Nothing,
+        multi_cycle_list::inner::Answer::Nothing => Answer::Nothing,
+        multi_cycle_list::inner::Answer::Holds(_) => Answer::Nothing,
+    }
+}
+
+pub fn enqueue_front(s: &mut [u8], key: u16) -> Answer
+    ensures { λ r. ⌜ (r ≡ answer (on (enqueueFront key) (now (s .entry)))) × (now (s .exit) ≡ bytes (now (s .entry)) (on (enqueueFront key) (now (s .entry)))) ⌝ }
+{
+    if whole(s) {} else {
+        return Answer::Refused(1);
+    }
+    let p = get_index(s, key);
+    match p {
+        Place::At(i) => {
+            queue_front(s, i);
+            Answer::Done
+        }
+        Place::Nowhere => Answer::Refused(15),
+    }
+}
+
+pub fn enqueue_back(s: &mut [u8], key: u16) -> Answer
+    ensures { λ r. ⌜ (r ≡ answer (on (enqueueBack key) (now (s .entry)))) × (now (s .exit) ≡ bytes (now (s .entry)) (on (enqueueBack key) (now (s .entry)))) ⌝ }
+{
+    if whole(s) {} else {
+        return Answer::Refused(1);
+    }
+    let p = get_index(s, key);
+    match p {
+        Place::At(i) => {
+            queue_back(s, i);
+            Answer::Done
+        }
+        Place::Nowhere => Answer::Refused(15),
+    }
+}
+
+pub fn dequeue(s: &mut [u8], key: u16) -> Answer
+    ensures { λ r. ⌜ (r ≡ answer (on (dequeue key) (now (s .entry)))) × (now (s .exit) ≡ bytes (now (s .entry)) (on (dequeue key) (now (s .entry)))) ⌝ }
+{
+    if whole(s) {} else {
+        return Answer::Refused(1);
+    }
+    let p = get_index(s, key);
+    match p {
+        Place::At(i) => {
+            unqueue(s, i);
+            Answer::Done
+        }
+        Place::Nowhere => Answer::Refused(15),
+    }
+}
+
+// Does nothing: its contract is the theorem of specs/Calls.antt.
+pub fn meaning()
+    ensures { λ _. ⌜ KeysMean ⌝ }
+{}

@@ -1,0 +1,325 @@
+-- What each call comes to: its answer and its bytes, on plain lists.
+use Prim.Native.Nat.{ℕ, zero, suc, _+_, _-_, _*_, _<_, _≤_, zero-le}
+use mathlib.Core.Path.{_≡_, refl, sym, ap, _∙_, subst}
+use mathlib.Core.Logic.{_≢_, _⊎_, inl, inr, ⊎-elim}
+use mathlib.Core.List.{List, [], _∷_, _++_}
+use mathlib.Core.Bool.{Bool, true, false, cond, _&&_, and-false}
+use native.Mathlib.Omega.{arith}
+use native.Mathlib.Decide.{ℕ-discrete, decLt}
+use native.Mathlib.Nat.{not-suc-le-zero}
+use lib.ListN.{length, getD, set, replicate, length-set, length-map, length-replicate}
+use lib.Dec.{ltb, leb, eqb}
+use borrow.Author.Tests.{lt-ltb, le-ltb, lt-leb, ltb-true, leb-true, eqb-true, eq-eqb, ne-eqb}
+use Rattle.state.specs.Lengths.{listsAllowed, listsLength}
+use Rattle.state.specs.Seq.{each}
+use Rattle.state.specs.Result.{Result, refuse, done, answer, left, Bytes, Means}
+use Rattle.state.specs.Result as state
+use Rattle.state.proofs.Seq.{length-each}
+use Rattle.state.proofs.Tests.{not-both, false-of, and-l, and-r}
+use Rattle.state.proofs.Calls.{Ends, Kept, kept, not-whole, refused, laid-out}
+use Rattle.multi_cycle_list.specs.Nodes.{classes, entries, next, prev, wholeB, listOf, listsOf, read}
+use Rattle.multi_cycle_list.specs.Inner.{unbindB, bindAfterB, bindBeforeB, moveAfterB, moveBeforeB, aloneTo}
+use Rattle.multi_cycle_list.specs.Lists.{Lists, Fair, without, removed, pushedFront, pushedBack, withRows, without-entry, movedFront, movedBack, empty, row, first, last}
+use Rattle.multi_class_queue.specs.Calls.{inSize, none, says, which, front, back, isEmpty, isFront, isBack, remove, moveFront, moveBack, opening}
+use Rattle.multi_cycle_list.specs.Laid.{laid}
+use Rattle.multi_class_queue.specs.Calls.{over, on, bytes, Call, Front, Back, IsEmpty, IsFront, IsBack, Remove, MoveFront, MoveBack, step, Sized, ListsMean}
+use Rattle.multi_cycle_list.specs.declared.inner.Answer.{Answer}
+use Rattle.multi_cycle_list.specs.declared.inner.Answer.the-variants.{Refused, Done, Is, Nothing, Holds}
+use Rattle.multi_cycle_list.proofs.WholeTools.{Sizes, whole-sizes, allowed-of}
+use Rattle.multi_cycle_list.proofs.Chain.{Link, Chain}
+use Rattle.multi_cycle_list.proofs.Sound.{linked-in, sound}
+use Rattle.multi_cycle_list.proofs.Meaning.{Turned, turned-whole, turned-lists, taken, unbound, removed-is, front-turned, back-turned, pushed-is, taken-is, list-at, asEntry, asClass, first-of, last-of}
+use Rattle.multi_cycle_list.proofs.FreshMeaning.{opened}
+use Rattle.multi_cycle_list.proofs.Laid.{laid-read, laid-whole, read-laid, read-fair, whole-bytes}
+use Rattle.multi_cycle_list.proofs.Changes.{rows-length, remove-fair, front-fair, back-fair, empty-fair}
+
+module _ (s : List ℕ) (c : ℕ) (h : wholeB s ≡ true) (hc : c < classes s) where
+  none-of : (es : List ℕ) → Chain (classes s) (next s) (prev s) c es c → Holds (ltb (next s c) (classes s)) ≡ none es
+  none-of [] p = rw (p .0, lt-ltb c (classes s) hc)
+  none-of (x ∷ xs) p = rw (p .0 .0, le-ltb (classes s + x) (classes s) (omega arith))
+
+  pub empty-is : Holds (ltb (next s c) (classes s)) ≡ none (row (read s) c)
+  empty-is = none-of (listOf s c) (sound s h .chains c hc) ∙ ap none (sym (list-at s c hc))
+
+which-at : (t : List ℕ → Bool) (n : ℕ) (f : ℕ → List ℕ) (k c : ℕ) → c < n → t (f c) ≡ true → ((d : ℕ) → d < n → t (f d) ≡ true → d ≡ c) → which t k (each n f) ≡ Is (k + c)
+unfolding which each
+which-at t zero f k c h y u = absurd (not-suc-le-zero h)
+which-at t (suc n) f k zero h y u =
+    let q : k ≡ k + 0 = omega arith in
+    rw y (ap Is q)
+which-at t (suc n) f k (suc c) h y u =
+    let q : suc k + c ≡ k + suc c = omega arith in
+    let no : t (f 0) ≡ false = false-of (t (f 0)) (λ z. omega (arith, u 0 (omega arith) z)) in
+    rw no (which-at t n (λ j. f (suc j)) (suc k) c (omega arith) y (λ d hd z. omega (arith, u (suc d) (omega arith) z)) ∙ ap Is q)
+
+which-none : (t : List ℕ → Bool) (n : ℕ) (f : ℕ → List ℕ) (k : ℕ) → ((d : ℕ) → d < n → t (f d) ≡ true → ⊥) → which t k (each n f) ≡ Nothing
+unfolding which each
+which-none t zero f k u = refl
+which-none t (suc n) f k u =
+    let no : t (f 0) ≡ false = false-of (t (f 0)) (λ z. u 0 (omega arith) z) in
+    rw no (which-none t n (λ j. f (suc j)) (suc k) (λ d hd z. u (suc d) (omega arith) z))
+
+module _ (C : ℕ) (nx pv : ℕ → ℕ) (e : ℕ) where
+  says-first : (es : List ℕ) (c : ℕ) → Chain C nx pv c es c → says e (first es) ≡ true → pv (C + e) ≡ c
+  says-first [] c p h = not-both (sym h)
+  says-first (x ∷ xs) c p h = ap (λ (z : ℕ). pv (C + z)) (sym (eqb-true x e h)) ∙ p .0 .1
+
+  first-says : (es : List ℕ) (c : ℕ) → c < C → Chain C nx pv c es c → nx c ≡ C + e → says e (first es) ≡ true
+  first-says [] c hc p h = absurd (omega (arith, p .0))
+  first-says (x ∷ xs) c hc p h = eq-eqb x e (omega (arith, p .0 .0))
+
+  says-last : (es : List ℕ) (a c : ℕ) → Chain C nx pv a es c → says e (last es) ≡ true → nx (C + e) ≡ c
+  says-last [] a c p h = not-both (sym h)
+  says-last (x ∷ []) a c p h = ap (λ (z : ℕ). nx (C + z)) (sym (eqb-true x e h)) ∙ p .1 .0
+  says-last (x ∷ (y ∷ ys)) a c p h = says-last (y ∷ ys) (C + x) c (p .1) h
+
+  last-more : (x : ℕ) (xs : List ℕ) (c : ℕ) → Chain C nx pv (C + x) xs c → pv c ≡ C + e → says e (last (x ∷ xs)) ≡ true
+  last-more x [] c p h = eq-eqb x e (omega (arith, p .1))
+  last-more x (y ∷ ys) c p h = last-more y ys c (p .1) h
+
+  last-says : (es : List ℕ) (c : ℕ) → c < C → Chain C nx pv c es c → pv c ≡ C + e → says e (last es) ≡ true
+  last-says [] c hc p h = absurd (omega (arith, p .1))
+  last-says (x ∷ xs) c hc p h = last-more x xs c (p .1) h
+
+module _ (s : List ℕ) (e : ℕ) (h : wholeB s ≡ true) (he : e < entries s) where
+  pub head-class : asClass s (prev s (classes s + e)) ≡ which (λ r. says e (first r)) 0 (listsOf s)
+  unfolding listsOf
+  head-class =
+      let C = classes s in
+      let t : List ℕ → Bool = λ r. says e (first r) in
+      let p = prev s (C + e) in
+      let l = linked-in s h (C + e) (omega arith) in
+      let u : (d : ℕ) → d < C → t (listOf s d) ≡ true → d ≡ p = λ d hd z. sym (says-first C (next s) (prev s) e (listOf s d) d (sound s h .chains d hd) z) in
+      elim (decLt p C) [
+        | yes q ↦ rw (lt-ltb p C q)
+            (let o : 0 + p ≡ p = omega arith in
+            sym (which-at t C (listOf s) 0 p q (first-says C (next s) (prev s) e (listOf s p) p q (sound s h .chains p q) (l .forth)) u ∙ ap Is o))
+        | no q ↦ rw (le-ltb p C (omega arith)) (sym (which-none t C (listOf s) 0 (λ d hd z. q (omega (arith, u d hd z)))))
+      ]
+
+  pub tail-class : asClass s (next s (classes s + e)) ≡ which (λ r. says e (last r)) 0 (listsOf s)
+  unfolding listsOf
+  tail-class =
+      let C = classes s in
+      let t : List ℕ → Bool = λ r. says e (last r) in
+      let p = next s (C + e) in
+      let l = linked-in s h (C + e) (omega arith) in
+      let u : (d : ℕ) → d < C → t (listOf s d) ≡ true → d ≡ p = λ d hd z. sym (says-last C (next s) (prev s) e (listOf s d) d d (sound s h .chains d hd) z) in
+      elim (decLt p C) [
+        | yes q ↦ rw (lt-ltb p C q)
+            (let o : 0 + p ≡ p = omega arith in
+            sym (which-at t C (listOf s) 0 p q (last-says C (next s) (prev s) e (listOf s p) p q (sound s h .chains p q) (l .back)) u ∙ ap Is o))
+        | no q ↦ rw (le-ltb p C (omega arith)) (sym (which-none t C (listOf s) 0 (λ d hd z. q (omega (arith, u d hd z)))))
+      ]
+
+-- ---- a call's end
+
+module _ (s : List ℕ) (h : wholeB s ≡ true) where
+  -- 13
+  pub past : (f : Lists → Result Answer Lists) → f (read s) ≡ refuse (Refused 13) → Ends over s (on f s) (Refused 13) s
+  past f q = refused wholeB read over (Refused 1) f s h (Refused 13) q
+
+  pub changed : (f : Lists → Result Answer Lists) (m : Lists) (t : List ℕ) → f (read s) ≡ done Done m → t ≡ laid m → Ends over s (on f s) Done t
+  changed f m t q l = laid-out wholeB read over (Refused 1) f s h Done m t q l
+
+  -- a call that only asks, in the size: its answer
+  pub asked : (f : Lists → Result Answer Lists) (a : Answer) → f (read s) ≡ done a (read s) → a ≡ answer (on f s)
+  asked f a q = laid-out wholeB read over (Refused 1) f s h a (read s) s q (sym (laid-read s h)) .0
+
+module _ (s : List ℕ) (c : ℕ) (hc : c < classes s) where
+  class-in : ltb c (length (listsOf s)) ≡ true
+  class-in = rw (rows-length s) (lt-ltb c (classes s) hc)
+
+  pub front-at : front c (read s) ≡ done (first (row (read s) c)) (read s)
+  unfolding front
+  front-at = rw class-in
+
+  pub back-at : back c (read s) ≡ done (last (row (read s) c)) (read s)
+  unfolding back
+  back-at = rw class-in
+
+  pub empty-at : isEmpty c (read s) ≡ done (none (row (read s) c)) (read s)
+  unfolding isEmpty
+  empty-at = rw class-in
+
+  module _ (e : ℕ) (he : e < entries s) where
+    pub move-front-at : moveFront c e (read s) ≡ done Done (movedFront c e (read s))
+    unfolding moveFront
+    move-front-at = rw (class-in, lt-ltb e (entries s) he)
+
+    pub move-back-at : moveBack c e (read s) ≡ done Done (movedBack c e (read s))
+    unfolding moveBack
+    move-back-at = rw (class-in, lt-ltb e (entries s) he)
+
+module _ (s : List ℕ) (c : ℕ) (hc : classes s ≤ c) where
+  class-out : ltb c (length (listsOf s)) ≡ false
+  class-out = rw (rows-length s) (le-ltb c (classes s) hc)
+
+  pub front-out : front c (read s) ≡ refuse (Refused 13)
+  unfolding front
+  front-out = rw class-out
+
+  pub back-out : back c (read s) ≡ refuse (Refused 13)
+  unfolding back
+  back-out = rw class-out
+
+  pub empty-out : isEmpty c (read s) ≡ refuse (Refused 13)
+  unfolding isEmpty
+  empty-out = rw class-out
+
+  pub move-front-class : (e : ℕ) → moveFront c e (read s) ≡ refuse (Refused 13)
+  unfolding moveFront
+  move-front-class e = rw class-out
+
+  pub move-back-class : (e : ℕ) → moveBack c e (read s) ≡ refuse (Refused 13)
+  unfolding moveBack
+  move-back-class e = rw class-out
+
+module _ (s : List ℕ) (e : ℕ) (he : e < entries s) where
+  pub is-front-at : isFront e (read s) ≡ done (which (λ r. says e (first r)) 0 (listsOf s)) (read s)
+  unfolding isFront
+  is-front-at = rw (lt-ltb e (entries s) he)
+
+  pub is-back-at : isBack e (read s) ≡ done (which (λ r. says e (last r)) 0 (listsOf s)) (read s)
+  unfolding isBack
+  is-back-at = rw (lt-ltb e (entries s) he)
+
+  pub remove-at : remove e (read s) ≡ done Done (without-entry e (read s))
+  unfolding remove
+  remove-at = rw (lt-ltb e (entries s) he)
+
+module _ (s : List ℕ) (e : ℕ) (he : entries s ≤ e) where
+  pub is-front-out : isFront e (read s) ≡ refuse (Refused 13)
+  unfolding isFront
+  is-front-out = rw (le-ltb e (entries s) he)
+
+  pub is-back-out : isBack e (read s) ≡ refuse (Refused 13)
+  unfolding isBack
+  is-back-out = rw (le-ltb e (entries s) he)
+
+  pub remove-out : remove e (read s) ≡ refuse (Refused 13)
+  unfolding remove
+  remove-out = rw (le-ltb e (entries s) he)
+
+  pub move-front-entry : (c : ℕ) → moveFront c e (read s) ≡ refuse (Refused 13)
+  unfolding moveFront
+  move-front-entry c = rw (le-ltb e (entries s) he, and-false)
+
+  pub move-back-entry : (c : ℕ) → moveBack c e (read s) ≡ refuse (Refused 13)
+  unfolding moveBack
+  move-back-entry c = rw (le-ltb e (entries s) he, and-false)
+
+-- ---- opening
+
+module _ (s : List ℕ) (c e : ℕ) where
+  pub open-sizes : listsAllowed c e ≡ false → opening (length s) c e ≡ refuse (Refused 13)
+  unfolding opening
+  open-sizes h = rw h
+
+  module _ (h : listsAllowed c e ≡ true) where
+    pub open-length : length s ≢ listsLength c e → opening (length s) c e ≡ refuse (Refused 1)
+    unfolding opening
+    open-length n = rw (h, ne-eqb (length s) (listsLength c e) n)
+
+    pub open-done : length s ≡ listsLength c e → opening (length s) c e ≡ done Done (empty c e)
+    unfolding opening
+    open-done n = rw (h, eq-eqb (length s) (listsLength c e) n)
+
+open-inv : (p l : Bool) (m₀ : Lists) (a : Answer) (m : Lists) → cond p (cond l (done Done m₀) (refuse (Refused 1))) (refuse (Refused 13)) ≡ done a m → (p ≡ true) × (m₀ ≡ m)
+open-inv true true m₀ a m q = (refl, cc)
+open-inv true false m₀ a m q = absurd (let z : _≡_ {A = ℕ} 0 1 = cc in omega arith)
+open-inv false l m₀ a m q = absurd (let z : _≡_ {A = ℕ} 0 1 = cc in omega arith)
+
+opened-whole : (n c e : ℕ) (a : Answer) (m : Lists) → opening n c e ≡ done a m → wholeB (laid m) ≡ true
+unfolding opening
+opened-whole n c e a m q =
+    let i = open-inv (listsAllowed c e) (eqb n (listsLength c e)) (empty c e) a m q in
+    subst (λ (x : Lists). wholeB (laid x) ≡ true) (i .1) (laid-whole (empty c e) (empty-fair c e (i .0)))
+
+-- ---- each call keeps lists fair, and their sizes
+
+sized-fair : (b : Bool) (a : Answer) (m m′ : Lists) → Fair m → (b ≡ true → Fair m′) → Fair (left m (inSize b (done a m′)))
+sized-fair true a m m′ f g = g refl
+sized-fair false a m m′ f g = f
+
+module _ (m : Lists) (f : Fair m) where
+  unchanged : (b : Bool) (a : Answer) → Fair (left m (inSize b (done a m)))
+  unchanged b a = sized-fair b a m m f (λ z. f)
+
+  moved : (c e : ℕ) (n : Lists) → (e < m .entries → c < length (m .rows) → Fair n) → Fair (left m (inSize (ltb c (length (m .rows)) && ltb e (m .entries)) (done Done n)))
+  moved c e n g =
+      sized-fair (ltb c (length (m .rows)) && ltb e (m .entries)) Done m n f (λ z.
+      g (ltb-true e (m .entries) (and-r (ltb c (length (m .rows))) _ z)) (ltb-true c (length (m .rows)) (and-l _ (ltb e (m .entries)) z)))
+
+step-fair : (k : Call) (m : Lists) → Fair m → Fair (left m (step k m))
+unfolding front back isEmpty isFront isBack remove moveFront moveBack
+step-fair (Front c) m f = unchanged m f (ltb c (length (m .rows))) (first (row m c))
+step-fair (Back c) m f = unchanged m f (ltb c (length (m .rows))) (last (row m c))
+step-fair (IsEmpty c) m f = unchanged m f (ltb c (length (m .rows))) (none (row m c))
+step-fair (IsFront e) m f = unchanged m f (ltb e (m .entries)) (which (λ r. says e (first r)) 0 (m .rows))
+step-fair (IsBack e) m f = unchanged m f (ltb e (m .entries)) (which (λ r. says e (last r)) 0 (m .rows))
+step-fair (Remove e) m f = sized-fair (ltb e (m .entries)) Done m (without-entry e m) f (λ z. remove-fair m f e (ltb-true e (m .entries) z))
+step-fair (MoveFront c e) m f = moved m f c e (movedFront c e m) (λ he hc. front-fair m f e he c hc)
+step-fair (MoveBack c e) m f = moved m f c e (movedBack c e m) (λ he hc. back-fair m f e he c hc)
+
+same-size : (b : Bool) (a : Answer) (m : Lists) (rs : List (List ℕ)) → length rs ≡ length (m .rows) → (n : ℕ) → Sized m n → Sized (left m (inSize b (done a (withRows m rs)))) n
+same-size true a m rs q n z = z ∙ ap (λ (k : ℕ). listsLength k (m .entries)) (sym q)
+same-size false a m rs q n z = z
+
+removed-length : (e : ℕ) (rs : List (List ℕ)) → length (removed e rs) ≡ length rs
+removed-length e rs = length-map rs (without e)
+
+step-sized : (k : Call) (m : Lists) (n : ℕ) → Fair m → Sized m n → Sized (left m (step k m)) n
+unfolding front back isEmpty isFront isBack remove moveFront moveBack
+step-sized (Front c) m n f z = same-size (ltb c (length (m .rows))) (first (row m c)) m (m .rows) refl n z
+step-sized (Back c) m n f z = same-size (ltb c (length (m .rows))) (last (row m c)) m (m .rows) refl n z
+step-sized (IsEmpty c) m n f z = same-size (ltb c (length (m .rows))) (none (row m c)) m (m .rows) refl n z
+step-sized (IsFront e) m n f z = same-size (ltb e (m .entries)) (which (λ r. says e (first r)) 0 (m .rows)) m (m .rows) refl n z
+step-sized (IsBack e) m n f z = same-size (ltb e (m .entries)) (which (λ r. says e (last r)) 0 (m .rows)) m (m .rows) refl n z
+step-sized (Remove e) m n f z = same-size (ltb e (m .entries)) Done m (removed e (m .rows)) (removed-length e (m .rows)) n z
+step-sized (MoveFront c e) m n f z = same-size (ltb c (length (m .rows)) && ltb e (m .entries)) Done m (pushedFront c e (removed e (m .rows))) (length-set (removed e (m .rows)) c (e ∷ getD (removed e (m .rows)) c []) ∙ removed-length e (m .rows)) n z
+step-sized (MoveBack c e) m n f z = same-size (ltb c (length (m .rows)) && ltb e (m .entries)) Done m (pushedBack c e (removed e (m .rows))) (length-set (removed e (m .rows)) c (getD (removed e (m .rows)) c [] ++ (e ∷ [])) ∙ removed-length e (m .rows)) n z
+
+read-sized : (b : List ℕ) → wholeB b ≡ true → Sized (read b) (length b)
+read-sized b h = whole-sizes b h .sized ∙ ap (λ (k : ℕ). listsLength k (entries b)) (sym (rows-length b))
+
+keeps : (k : Call) (b : List ℕ) → Bytes b → wholeB b ≡ true → Kept wholeB read over b (on (step k) b) (step k (read b))
+keeps k b y h =
+    kept wholeB read over (Refused 1) Fair Sized (λ m b y f z. whole-bytes (laid m) (laid-whole m f)) (λ m b y f z. laid-whole m f) (λ m b y f z. read-laid m f) (step k) b y h
+    (step-fair k (read b) (read-fair b h)) (step-sized k (read b) (length b) (read-fair b h) (read-sized b h))
+
+pub mean : ListsMean
+mean =
+    record {
+      opened = opened-whole;
+      meaning = record {
+        whole-fair = λ b y h. read-fair b h;
+        whole-sized = read-sized;
+        laid-read = λ b y h. laid-read b h;
+        laid-bytes = λ m b y f z. whole-bytes (laid m) (laid-whole m f);
+        laid-whole = λ m b y f z. laid-whole m f;
+        read-laid = λ m b y f z. read-laid m f;
+        step-fair = step-fair;
+        step-sized = step-sized;
+        keeps-bytes = λ k b y h. keeps k b y h .are-bytes;
+        keeps-whole = λ k b y h. keeps k b y h .are-whole;
+        keeps-meaning = λ k b y h. keeps k b y h .meaning;
+      };
+    }
+
+-- ---- the ends that every call has
+
+pub unwhole : (f : Lists → Result Answer Lists) (s : List ℕ) → wholeB s ≡ false → Ends over s (on f s) (Refused 1) s
+unwhole f s h = not-whole wholeB read over (Refused 1) f s h
+
+pub opens : (s : List ℕ) (c e : ℕ) (o : Result Answer Lists) → opening (length s) c e ≡ o → Ends over s (opening (length s) c e) (answer o) (bytes s o)
+opens s c e o q = (ap (λ (x : Result Answer Lists). answer x) (sym q), ap (λ (x : Result Answer Lists). bytes s x) (sym q))
+
+pub sizes-below : (c e : ℕ) → c < 1 → listsAllowed c e ≡ false
+sizes-below c e h = rw (lt-leb 1 c h)
+
+pub sizes-classes : (c e : ℕ) → 32 < c → listsAllowed c e ≡ false
+sizes-classes c e h = rw (lt-leb c 32 h, and-false)
+
+pub sizes-entries : (c e : ℕ) → 224 < e → listsAllowed c e ≡ false
+sizes-entries c e h = simp (lt-leb e 224 h, and-false)

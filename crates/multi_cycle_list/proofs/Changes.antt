@@ -1,0 +1,109 @@
+-- What the stores come to: the answers and the bytes of plain lists.
+use Prim.Native.Nat.{ℕ, zero, suc, _+_, _-_, _*_, _<_, _≤_, zero-le}
+use mathlib.Core.Path.{_≡_, refl, sym, ap, _∙_, subst}
+use mathlib.Core.Logic.{_≢_, _⊎_, inl, inr, ⊎-elim}
+use mathlib.Core.List.{List, [], _∷_, _++_}
+use mathlib.Core.Bool.{Bool, true, false, cond, _&&_, and-false}
+use native.Mathlib.Omega.{arith}
+use native.Mathlib.Decide.{ℕ-discrete, decLt}
+use native.Mathlib.Nat.{not-suc-le-zero}
+use lib.ListN.{length, getD, set, replicate, length-set, length-map, length-replicate}
+use lib.Dec.{ltb, leb, eqb}
+use borrow.Author.Tests.{lt-ltb, le-ltb, lt-leb, ltb-true, leb-true, eqb-true, eq-eqb, ne-eqb}
+use Rattle.state.specs.Lengths.{listsAllowed, listsLength}
+use Rattle.state.specs.Seq.{each}
+use Rattle.state.proofs.Seq.{length-each}
+use Rattle.multi_cycle_list.specs.Nodes.{classes, entries, next, prev, wholeB, listOf, listsOf, read}
+use Rattle.multi_cycle_list.specs.Inner.{unbindB, bindAfterB, bindBeforeB, moveAfterB, moveBeforeB, aloneTo}
+use Rattle.multi_cycle_list.specs.Lists.{Lists, Fair, row, first, last, removed, pushedFront, pushedBack, withRows, without-entry, movedFront, movedBack, empty}
+use Rattle.multi_cycle_list.specs.Laid.{laid}
+use Rattle.multi_cycle_list.specs.declared.inner.Answer.{Answer}
+use Rattle.multi_cycle_list.specs.declared.inner.Answer.the-variants.{Is, Nothing}
+use Rattle.multi_cycle_list.proofs.WholeTools.{Sizes, whole-sizes, allowed-of}
+use Rattle.multi_cycle_list.proofs.Chain.{Link, Chain}
+use Rattle.multi_cycle_list.proofs.Sound.{linked-in, sound}
+use Rattle.multi_cycle_list.proofs.Meaning.{Turned, turned-whole, turned-lists, taken, unbound, removed-is, front-turned, back-turned, pushed-is, taken-is, list-at, asEntry, asClass, first-of, last-of}
+use Rattle.multi_cycle_list.proofs.FreshMeaning.{opened}
+use Rattle.multi_cycle_list.proofs.Laid.{lists, laid-read, laid-whole, read-laid, read-fair}
+
+pub rows-length : (s : List ℕ) → length (listsOf s) ≡ classes s
+unfolding listsOf
+rows-length s = length-each (classes s) (listOf s)
+
+-- ---- the answers, from the links
+
+module _ (s : List ℕ) (c : ℕ) (h : wholeB s ≡ true) (hc : c < classes s) where
+  pub front-is : asEntry s (next s c) ≡ first (row (read s) c)
+  front-is = first-of s c (listOf s c) hc (sound s h .chains c hc) ∙ ap first (sym (list-at s c hc))
+
+  pub back-is : asEntry s (prev s c) ≡ last (row (read s) c)
+  back-is = last-of s c (listOf s c) hc (sound s h .chains c hc) ∙ ap last (sym (list-at s c hc))
+
+-- ---- the bytes that each change leaves
+
+-- t stands for what rs has, in the sizes of s
+turned-read : (s t : List ℕ) (ls : ℕ → List ℕ) → Turned s t ls → (rs : List (List ℕ)) → each (classes s) ls ≡ rs → read t ≡ withRows (read s) rs
+turned-read s t ls w rs q = ap (λ (e : ℕ). lists e (listsOf t)) (w .same .es) ∙ ap (lists (entries s)) (turned-lists s t ls w ∙ q)
+
+-- so t is what is laid out, and what is laid out is fair
+pub record Lays (t : List ℕ) (m : Lists) : Type 0 where
+  pub is : t ≡ laid m
+  pub fair : Fair m
+
+turned-laid : (s t : List ℕ) (ls : ℕ → List ℕ) → wholeB s ≡ true → Turned s t ls → (rs : List (List ℕ)) → each (classes s) ls ≡ rs → Lays t (withRows (read s) rs)
+turned-laid s t ls h w rs q =
+    let z = turned-whole s t ls (whole-sizes s h) w in
+    let r = turned-read s t ls w rs q in
+    record { is = sym (laid-read t z) ∙ ap (λ (m : Lists). laid m) r; fair = subst (λ (m : Lists). Fair m) r (read-fair t z) }
+
+module _ (s : List ℕ) (e : ℕ) (h : wholeB s ≡ true) (he : e < entries s) where
+  pub remove-laid : Lays (unbindB s (classes s + e)) (withRows (read s) (removed e (listsOf s)))
+  remove-laid = turned-laid s _ _ h (unbound s e h he) _ (removed-is s e h he)
+
+  module _ (c : ℕ) (hc : c < classes s) where
+    pub front-laid : Lays (moveAfterB s (classes s + e) c) (withRows (read s) (pushedFront c e (removed e (listsOf s))))
+    front-laid =
+        turned-laid s _ _ h (front-turned s e h he c hc) _
+        (pushed-is s e h he c hc _ ∙ ap (λ (l : List ℕ). set (removed e (listsOf s)) c (e ∷ l)) (taken-is s e h he c hc))
+
+    pub back-laid : Lays (moveBeforeB s (classes s + e) c) (withRows (read s) (pushedBack c e (removed e (listsOf s))))
+    back-laid =
+        turned-laid s _ _ h (back-turned s e h he c hc) _
+        (pushed-is s e h he c hc _ ∙ ap (λ (l : List ℕ). set (removed e (listsOf s)) c (l ++ (e ∷ []))) (taken-is s e h he c hc))
+
+-- ---- opening
+
+each-empty : (n : ℕ) → each {A = List ℕ} n (λ k. []) ≡ replicate n []
+unfolding each
+each-empty zero = refl
+each-empty (suc n) = ap (λ (l : List (List ℕ)). [] ∷ l) (each-empty n)
+
+pub fresh : (s : List ℕ) (c e : ℕ) → listsAllowed c e ≡ true → length s ≡ listsLength c e → Lays (aloneTo (set (set s 0 c) 1 e) (c + e)) (empty c e)
+fresh s c e l n =
+    let a = allowed-of c e l in
+    let o = opened s c e (a .0) (a .1) (a .2) n in
+    let t = aloneTo (set (set s 0 c) 1 e) (c + e) in
+    let r : read t ≡ empty c e = ap (λ (k : ℕ). lists k (listsOf t)) (o .sized) ∙ ap (lists e) (o .empty ∙ each-empty c) in
+    record { is = sym (laid-read t (o .is-whole)) ∙ ap (λ (m : Lists). laid m) r; fair = subst (λ (m : Lists). Fair m) r (read-fair t (o .is-whole)) }
+
+-- ---- each change keeps lists fair
+
+module _ (m : Lists) (f : Fair m) (e : ℕ) (he : e < m .entries) where
+  entry-in : e < entries (laid m)
+  entry-in = omega (arith, ap (λ (x : Lists). x .entries) (read-laid m f))
+
+  pub remove-fair : Fair (without-entry e m)
+  remove-fair = subst (λ (x : Lists). Fair (without-entry e x)) (read-laid m f) (remove-laid (laid m) e (laid-whole m f) entry-in .fair)
+
+  module _ (c : ℕ) (hc : c < length (m .rows)) where
+    class-in : c < classes (laid m)
+    class-in = omega (arith, rows-length (laid m), ap (λ (x : Lists). length (x .rows)) (read-laid m f))
+
+    pub front-fair : Fair (movedFront c e m)
+    front-fair = subst (λ (x : Lists). Fair (movedFront c e x)) (read-laid m f) (front-laid (laid m) e (laid-whole m f) entry-in c class-in .fair)
+
+    pub back-fair : Fair (movedBack c e m)
+    back-fair = subst (λ (x : Lists). Fair (movedBack c e x)) (read-laid m f) (back-laid (laid m) e (laid-whole m f) entry-in c class-in .fair)
+
+pub empty-fair : (c e : ℕ) → listsAllowed c e ≡ true → Fair (empty c e)
+empty-fair c e h = fresh (replicate (listsLength c e) 0) c e h (length-replicate {A = ℕ} (listsLength c e) 0) .fair

@@ -1,0 +1,14 @@
+pub mod Bytes
+pub mod Trace
+pub mod WholeTools
+pub mod Lists
+pub mod Chain
+pub mod Rep
+pub mod Stores
+pub mod Marks
+pub mod Sound
+pub mod Meaning
+pub mod FreshMeaning
+pub mod Arcs
+pub mod Laid
+pub mod Changes

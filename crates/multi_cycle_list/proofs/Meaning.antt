@@ -1,0 +1,154 @@
+-- What the stores do to the lists that the bytes stand for; and the ends of a chain.
+use Prim.Native.Nat.{ℕ, zero, suc, _+_, _-_, _*_, _<_, _≤_, zero-le}
+use mathlib.Core.Path.{_≡_, refl, sym, ap, _∙_, subst}
+use mathlib.Core.Logic.{_≢_, _⊎_, inl, inr, ⊎-elim}
+use mathlib.Core.List.{List, [], _∷_, _++_, map}
+use mathlib.Core.Bool.{Bool, true, false, cond, _&&_, _||_}
+use native.Mathlib.Omega.{arith}
+use native.Mathlib.Nat.{not-suc-le-zero}
+use native.Mathlib.Decide.{ℕ-discrete, decLt}
+use lib.ListN.{length, getD, set}
+use lib.Dec.{ltb}
+use borrow.Author.Tests.{lt-ltb, le-ltb}
+use Rattle.multi_cycle_list.specs.Nodes.{classes, entries, next, prev, wholeB, listOf, listsOf}
+use Rattle.multi_cycle_list.specs.Inner.{unbindB, bindAfterB, bindBeforeB, Within}
+use Rattle.state.specs.Seq.{each}
+use Rattle.state.proofs.Seq.{each-same, map-each, getD-each, set-each}
+use Rattle.multi_cycle_list.specs.Lists.{without, removed, pushedFront, pushedBack, first, last}
+use Rattle.multi_cycle_list.specs.declared.inner.Answer.{Answer}
+use Rattle.multi_cycle_list.specs.declared.inner.Answer.the-variants.{Refused, Is, Nothing}
+use Rattle.multi_cycle_list.proofs.WholeTools.{Sizes, LinkedAt, whole-sizes}
+use Rattle.multi_cycle_list.proofs.Lists.{In, of-without}
+use Rattle.multi_cycle_list.proofs.Chain.{Link, Chain}
+use Rattle.multi_cycle_list.proofs.Stores.{unbinds, binds-after, binds-before, Same, unbind-same, after-same, before-same}
+use Rattle.multi_cycle_list.proofs.Rep.{Rep, upd, upd-same, upd-other, rep-without, rep-front, rep-back, rep-next, rep-prev}
+use Rattle.multi_cycle_list.proofs.Sound.{Stands, linked-in, sound, complete, list-is}
+
+-- ---- the bytes t, with the sizes of s, stand for ls
+
+pub record Turned (s t : List ℕ) (ls : ℕ → List ℕ) : Type 0 where
+  pub same : Same t s
+  pub stands : Rep (classes s) (entries s) (next t) (prev t) ls
+
+stands-in : (s t : List ℕ) (ls : ℕ → List ℕ) → Turned s t ls → Stands t ls
+stands-in s t ls w =
+    rw (w .same .cs, w .same .es) (w .stands)
+
+turned-sizes : (s t : List ℕ) → Same t s → Sizes s → Sizes t
+turned-sizes s t w z =
+    record { some = omega (arith, w .cs, z .some); most = omega (arith, w .cs, z .most); fewer = omega (arith, w .es, z .fewer); sized = w .len ∙ z .sized ∙ sym (ap (λ (n : ℕ). 2 + 2 * n) (ap (λ (n : ℕ). n + entries t) (w .cs) ∙ ap (λ (n : ℕ). classes s + n) (w .es))) }
+
+pub turned-whole : (s t : List ℕ) (ls : ℕ → List ℕ) → Sizes s → Turned s t ls → wholeB t ≡ true
+turned-whole s t ls z w = complete t ls (turned-sizes s t (w .same) z) (stands-in s t ls w)
+
+pub turned-lists : (s t : List ℕ) (ls : ℕ → List ℕ) → Turned s t ls → listsOf t ≡ each (classes s) ls
+unfolding listsOf
+turned-lists s t ls w =
+    each-same (classes t) (listOf t) ls (λ c h. list-is t ls (stands-in s t ls w) c h) ∙ ap (λ (n : ℕ). each n ls) (w .same .cs)
+
+-- ---- the stores
+
+module _ (s : List ℕ) (e : ℕ) (h : wholeB s ≡ true) (he : e < entries s) where
+  pub taken : ℕ → List ℕ
+  taken c = without e (listOf s c)
+
+  pub unbound : Turned s (unbindB s (classes s + e)) taken
+  unfolding taken
+  unbound =
+      let z = whole-sizes s h in
+      let l = linked-in s h (classes s + e) (omega arith) in
+      record {
+        same = unbind-same s (classes s + e);
+        stands = rep-without (classes s) (entries s) (next s) (prev s) (listOf s) (sound s h) (next (unbindB s (classes s + e))) (prev (unbindB s (classes s + e))) e
+            (unbinds s (classes s + entries s) (classes s + e) (z .sized) (omega arith) (l .next-in) (l .prev-in) (l .back) (l .forth));
+      }
+
+  gone : (c : ℕ) → c < classes s → In e (taken c) → ⊥
+  unfolding taken
+  gone c hc i = of-without e (listOf s c) e i .1 refl
+
+  pub removed-is : each (classes s) taken ≡ removed e (listsOf s)
+  unfolding taken listsOf
+  removed-is = sym (map-each (without e) (classes s) (listOf s))
+
+  -- the entry alone
+  lone : Link (next (unbindB s (classes s + e))) (prev (unbindB s (classes s + e))) (classes s + e) (classes s + e)
+  lone =
+      ⊎-elim
+      (λ w. absurd (gone (w .0) (w .1) (w .2)))
+      (λ l. l)
+      (unbound .stands .places e he)
+
+  module _ (c : ℕ) (hc : c < classes s) where
+    pub front-turned : Turned s (bindAfterB (unbindB s (classes s + e)) (classes s + e) c) (upd taken c (e ∷ taken c))
+    front-turned =
+        let z = whole-sizes s h in
+        let t = unbindB s (classes s + e) in
+        let u = unbound in
+        let o = rep-next (classes s) (entries s) (next t) (prev t) taken (u .stands) c (omega arith) in
+        let a = after-same t (classes s + e) c in
+        record {
+          same = record { cs = a .cs ∙ u .same .cs; es = a .es ∙ u .same .es; len = a .len ∙ u .same .len };
+          stands = rep-front (classes s) (entries s) (next t) (prev t) taken (u .stands) _ _ e c he hc gone
+              (binds-after t (classes s + entries s) (classes s + e) c (u .same .len ∙ z .sized) (omega arith) (omega arith) (o .0) (lone .0) (lone .1) (omega arith) (o .1));
+        }
+
+    pub back-turned : Turned s (bindBeforeB (unbindB s (classes s + e)) (classes s + e) c) (upd taken c (taken c ++ (e ∷ [])))
+    back-turned =
+        let z = whole-sizes s h in
+        let t = unbindB s (classes s + e) in
+        let u = unbound in
+        let o = rep-prev (classes s) (entries s) (next t) (prev t) taken (u .stands) c (omega arith) in
+        let a = before-same t (classes s + e) c in
+        record {
+          same = record { cs = a .cs ∙ u .same .cs; es = a .es ∙ u .same .es; len = a .len ∙ u .same .len };
+          stands = rep-back (classes s) (entries s) (next t) (prev t) taken (u .stands) _ _ e c he hc gone
+              (binds-before t (classes s + entries s) (classes s + e) c (u .same .len ∙ z .sized) (omega arith) (omega arith) (o .0) (lone .0) (lone .1) (omega arith) (o .1));
+        }
+
+    pub pushed-is : (v : List ℕ) → each (classes s) (upd taken c v) ≡ set (removed e (listsOf s)) c v
+    pushed-is v =
+        sym (ap (λ (l : List (List ℕ)). set l c v) (sym removed-is) ∙ set-each (classes s) taken (upd taken c v) c v (upd-same taken c v c refl) (λ k n. upd-other taken c v k n) hc)
+
+    pub taken-is : taken c ≡ getD (removed e (listsOf s)) c []
+    taken-is = sym (ap (λ (l : List (List ℕ)). getD l c []) (sym removed-is) ∙ getD-each (classes s) taken c [] hc)
+
+-- ---- the answers
+
+-- the node n as an entry, and as a class
+abbrev pub asEntry : List ℕ → ℕ → Answer
+asEntry s n = cond (ltb n (classes s)) Nothing (Is (n - classes s))
+
+abbrev pub asClass : List ℕ → ℕ → Answer
+asClass s n = cond (ltb n (classes s)) (Is n) Nothing
+
+pub list-at : (s : List ℕ) (c : ℕ) → c < classes s → getD (listsOf s) c [] ≡ listOf s c
+unfolding listsOf
+list-at s c hc = getD-each (classes s) (listOf s) c [] hc
+
+pub first-of : (s : List ℕ) (c : ℕ) (es : List ℕ) → c < classes s → Chain (classes s) (next s) (prev s) c es c → asEntry s (next s c) ≡ first es
+first-of s c [] hc p = rw (p .0, lt-ltb c (classes s) hc)
+first-of s c (x ∷ xs) hc p =
+    let q : classes s + x - classes s ≡ x = omega arith in
+    rw (p .0 .0, le-ltb (classes s + x) (classes s) (omega arith), q)
+
+pub lastNode : ℕ → ℕ → List ℕ → ℕ
+lastNode C a [] = a
+lastNode C a (e ∷ es) = lastNode C (C + e) es
+
+pub last-link : (C : ℕ) (nx pv : ℕ → ℕ) (es : List ℕ) (a b : ℕ) → Chain C nx pv a es b → pv b ≡ lastNode C a es
+unfolding lastNode
+last-link C nx pv [] a b p = p .1
+last-link C nx pv (e ∷ es) a b p = last-link C nx pv es (C + e) b (p .1)
+
+last-node : (s : List ℕ) (x : ℕ) (xs : List ℕ) → asEntry s (lastNode (classes s) (classes s + x) xs) ≡ last (x ∷ xs)
+unfolding lastNode
+last-node s x [] =
+    let q : classes s + x - classes s ≡ x = omega arith in
+    rw (le-ltb (classes s + x) (classes s) (omega arith), q)
+last-node s x (y ∷ ys) = last-node s y ys
+
+pub last-of : (s : List ℕ) (c : ℕ) (es : List ℕ) → c < classes s → Chain (classes s) (next s) (prev s) c es c → asEntry s (prev s c) ≡ last es
+unfolding lastNode
+last-of s c [] hc p = rw (p .1, lt-ltb c (classes s) hc)
+last-of s c (x ∷ xs) hc p = ap (asEntry s) (last-link (classes s) (next s) (prev s) (x ∷ xs) c c p) ∙ last-node s x xs

@@ -1,0 +1,4 @@
+pub mod Lists
+pub mod Nodes
+pub mod Laid
+pub mod Inner

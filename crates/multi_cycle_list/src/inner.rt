@@ -1,0 +1,84 @@
+// What the calls do once the bytes are known whole and the class and the entry in the size. Inner: these cross crates and may require.
+use crate::cycle::alone;
+use crate::cycle::move_after;
+use crate::cycle::move_before;
+use crate::cycle::unbind;
+ghost use mathlib.Core.Path.{_≡_};
+ghost use mathlib.Core.Bool.{true};
+ghost use Prim.Native.Nat.{_+_, _<_};
+ghost use lib.ListN.{length, replicate};
+ghost use mathlib.Core.List.{[]};
+ghost use Rattle.state.specs.Lengths.{listsAllowed, listsLength};
+ghost use Rattle.multi_cycle_list.specs.Lists.{first, last, row, empty, without-entry, movedFront, movedBack};
+ghost use Rattle.multi_cycle_list.specs.Nodes.{wholeB, classes, entries, read};
+ghost use Rattle.multi_cycle_list.specs.Laid.{laid};
+
+// An answer of a list queue's calls.
+pub enum Answer {
+    Refused(u8),
+    Done,
+    Is(u8),
+    Nothing,
+    Holds(bool),
+}
+
+// Every byte is written: each class empty, each entry unbound.
+pub fn inner_open(s: &mut [u8], classes: usize, entries: usize)
+    requires { ⌜ (listsAllowed classes entries ≡ true) × (length (now s) ≡ listsLength classes entries) ⌝ }
+    ensures { λ _. ⌜ now (s .exit) ≡ laid (empty classes entries) ⌝ }
+{
+    s[0] = classes as u8;
+    s[1] = entries as u8;
+    alone(s, classes + entries);
+}
+
+pub fn inner_front(s: &[u8], class: usize) -> Answer
+    requires { ⌜ (wholeB (now s) ≡ true) × (class < classes (now s)) ⌝ }
+    ensures { λ r. ⌜ r ≡ first (row (read (now (s .entry))) class) ⌝ }
+{
+    let c = s[0];
+    let n = s[2 + 2 * class];
+    if n < c {
+        return Answer::Nothing;
+    }
+    Answer::Is(n - c)
+}
+
+pub fn inner_back(s: &[u8], class: usize) -> Answer
+    requires { ⌜ (wholeB (now s) ≡ true) × (class < classes (now s)) ⌝ }
+    ensures { λ r. ⌜ r ≡ last (row (read (now (s .entry))) class) ⌝ }
+{
+    let c = s[0];
+    let n = s[3 + 2 * class];
+    if n < c {
+        return Answer::Nothing;
+    }
+    Answer::Is(n - c)
+}
+
+pub fn inner_remove(s: &mut [u8], entry: usize)
+    requires { ⌜ (wholeB (now s) ≡ true) × (entry < entries (now s)) ⌝ }
+    ensures { λ _. ⌜ now (s .exit) ≡ laid (without-entry entry (read (now (s .entry)))) ⌝ }
+{
+    let c = s[0] as usize;
+    let e = s[1] as usize;
+    unbind(s, c + e, c + entry);
+}
+
+pub fn inner_move_front(s: &mut [u8], class: usize, entry: usize)
+    requires { ⌜ (wholeB (now s) ≡ true) × ((class < classes (now s)) × (entry < entries (now s))) ⌝ }
+    ensures { λ _. ⌜ now (s .exit) ≡ laid (movedFront class entry (read (now (s .entry)))) ⌝ }
+{
+    let c = s[0] as usize;
+    let e = s[1] as usize;
+    move_after(s, c + e, c + entry, class);
+}
+
+pub fn inner_move_back(s: &mut [u8], class: usize, entry: usize)
+    requires { ⌜ (wholeB (now s) ≡ true) × ((class < classes (now s)) × (entry < entries (now s))) ⌝ }
+    ensures { λ _. ⌜ now (s .exit) ≡ laid (movedBack class entry (read (now (s .entry)))) ⌝ }
+{
+    let c = s[0] as usize;
+    let e = s[1] as usize;
+    move_before(s, c + e, c + entry, class);
+}

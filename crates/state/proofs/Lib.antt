@@ -1,0 +1,5 @@
+pub mod Tests
+pub mod Seq
+pub mod Numbers
+pub mod Disjoint
+pub mod Calls

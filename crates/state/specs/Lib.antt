@@ -1,0 +1,3 @@
+pub mod Seq
+pub mod Lengths
+pub mod Result

@@ -1,0 +1,22 @@
+-- Every row is computed.
+use mathlib.Core.Path.{refl}
+use Rattle.state.specs.Seq.{allB, someB, each}
+use Rattle.multi_cycle_list.specs.Lists.{count, without}
+use Rattle.multi_cycle_list.specs.Nodes.{trace, traceEnd, listOf, listsOf, linkedAt, sizesB as listSizes, wholeB as wholeList}
+use Rattle.multi_cycle_list.specs.Laid.{path, arcs, after, before, twos, laidOut}
+use Rattle.index_entries.specs.Keys.{find}
+use Rattle.index_entries.specs.Bytes.{sizesB, listsB, wholeB}
+use Rattle.index_entries.specs.Laid.{words, longs, laid}
+use Rattle.index_queue.specs.Calls.{get, insert, remove, opening}
+use Rattle.gomxeli.specs.Answers.{packed}
+use Rattle.gomxeli.specs.Calls.{run}
+use Rattle.cases.specs.Table.{table}
+use Rattle.cases.proofs.cases.Statement.{statement}
+use Rattle.cases.proofs.cases.Tie as tie
+
+returns : tie.Need-returns
+unfolding allB someB each count without trace traceEnd listOf listsOf linkedAt listSizes wholeList path arcs after before twos laidOut find sizesB listsB wholeB words longs laid get insert remove opening packed run table
+returns c = record { all = refl }
+
+pub cases-spec : {M : Type 1} → statement M
+cases-spec = tie.close (tie.spec returns)

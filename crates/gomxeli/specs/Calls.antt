@@ -1,0 +1,60 @@
+-- Every exported call on state bytes: what it answers, and the bytes that it leaves.
+use Prim.Native.Nat.{ℕ}
+use mathlib.Core.List.{List, [], _∷_}
+use lib.ListN.{length}
+use Rattle.state.specs.Result as state
+use Rattle.state.specs.Result.{Result}
+use Rattle.multi_class_queue.specs.Calls as mcq
+use Rattle.index_queue.specs.Calls as iq
+use Rattle.gomxeli.specs.Answers.{listAnswer, keyAnswer}
+
+pub record Outcome : Type 0 where
+  pub answer : ℕ
+  pub bytes : List ℕ
+
+-- a call that reads: the answer's number, and the bytes b as they were
+abbrev pub asks : {A M : Type 0} → (A → ℕ) → List ℕ → Result A M → Outcome
+asks number b r = record { answer = number (state.answer r); bytes = b }
+
+-- a call that writes: `after b r` are the bytes that the result r makes of b
+abbrev pub changes : {A M : Type 0} → (A → ℕ) → (List ℕ → Result A M → List ℕ) → List ℕ → Result A M → Outcome
+changes number after b r = record { answer = number (state.answer r); bytes = after b r }
+
+pub data Call : Type 0 where
+  McqFront McqBack McqIsEmpty McqIsFront McqIsBack McqRemove : ℕ → Call
+  McqOpen McqMoveFront McqMoveBack : ℕ → ℕ → Call
+  IqFront IqBack : Call
+  IqContains IqGet IqRemove IqEnqueueFront IqEnqueueBack IqDequeue : ℕ → Call
+  IqOpen IqGetMut IqInsert : ℕ → ℕ → Call
+
+-- each as its own contract has it
+abbrev pub does : Call → List ℕ → Outcome
+does (McqOpen c e) b = changes listAnswer mcq.bytes b (mcq.opening (length b) c e)
+does (McqFront c) b = asks listAnswer b (mcq.on (mcq.front c) b)
+does (McqBack c) b = asks listAnswer b (mcq.on (mcq.back c) b)
+does (McqIsEmpty c) b = asks listAnswer b (mcq.on (mcq.isEmpty c) b)
+does (McqIsFront e) b = asks listAnswer b (mcq.on (mcq.isFront e) b)
+does (McqIsBack e) b = asks listAnswer b (mcq.on (mcq.isBack e) b)
+does (McqRemove e) b = changes listAnswer mcq.bytes b (mcq.on (mcq.remove e) b)
+does (McqMoveFront c e) b = changes listAnswer mcq.bytes b (mcq.on (mcq.moveFront c e) b)
+does (McqMoveBack c e) b = changes listAnswer mcq.bytes b (mcq.on (mcq.moveBack c e) b)
+does (IqOpen k e) b = changes keyAnswer iq.openedBytes b (iq.opening (length b) k e)
+does (IqContains k) b = asks keyAnswer b (iq.on (iq.contains k) b)
+does (IqGet k) b = asks keyAnswer b (iq.on (iq.get k) b)
+does (IqGetMut k v) b = changes keyAnswer iq.bytes b (iq.on (iq.getMut k v) b)
+does (IqInsert k v) b = changes keyAnswer iq.bytes b (iq.on (iq.insert k v) b)
+does (IqRemove k) b = changes keyAnswer iq.bytes b (iq.on (iq.remove k) b)
+does IqFront b = asks keyAnswer b (iq.on iq.front b)
+does IqBack b = asks keyAnswer b (iq.on iq.back b)
+does (IqEnqueueFront k) b = changes keyAnswer iq.bytes b (iq.on (iq.enqueueFront k) b)
+does (IqEnqueueBack k) b = changes keyAnswer iq.bytes b (iq.on (iq.enqueueBack k) b)
+does (IqDequeue k) b = changes keyAnswer iq.bytes b (iq.on (iq.dequeue k) b)
+
+-- the answers of calls one after the other, and the bytes that they leave
+unfoldable pub run : List Call → List ℕ → List ℕ
+run [] b = []
+run (c ∷ cs) b = (does c b) .answer ∷ run cs ((does c b) .bytes)
+
+unfoldable pub left : List Call → List ℕ → List ℕ
+left [] b = b
+left (c ∷ cs) b = left cs ((does c b) .bytes)

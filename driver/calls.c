@@ -1,0 +1,30 @@
+#include "calls.h"
+
+#define CALL(name, ...) \
+    gomxeli_answer name(uint8_t *state, size_t len, const uint32_t *n) \
+    { \
+        (void)n; \
+        return gomxeli_##name(__VA_ARGS__); \
+    }
+
+CALL(mcq_open, state, len, n[0], n[1])
+CALL(mcq_front, state, len, n[0])
+CALL(mcq_back, state, len, n[0])
+CALL(mcq_is_empty, state, len, n[0])
+CALL(mcq_is_front, state, len, n[0])
+CALL(mcq_is_back, state, len, n[0])
+CALL(mcq_remove, state, len, n[0])
+CALL(mcq_move_front, state, len, n[0], n[1])
+CALL(mcq_move_back, state, len, n[0], n[1])
+
+CALL(iq_open, state, len, n[0], n[1])
+CALL(iq_contains, state, len, (uint16_t)n[0])
+CALL(iq_get, state, len, (uint16_t)n[0])
+CALL(iq_get_mut, state, len, (uint16_t)n[0], n[1])
+CALL(iq_insert, state, len, (uint16_t)n[0], n[1])
+CALL(iq_remove, state, len, (uint16_t)n[0])
+CALL(iq_front, state, len)
+CALL(iq_back, state, len)
+CALL(iq_enqueue_front, state, len, (uint16_t)n[0])
+CALL(iq_enqueue_back, state, len, (uint16_t)n[0])
+CALL(iq_dequeue, state, len, (uint16_t)n[0])

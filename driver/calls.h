@@ -1,0 +1,25 @@
+/*
+ * The exported calls that have a state, all of one shape, for tables: the state
+ * and the call's numbers in the header's order. Numbers that a call does not take
+ * are not read.
+ */
+#ifndef CALLS_H
+#define CALLS_H
+
+#include <stddef.h>
+#include <stdint.h>
+
+#include "gomxeli.h"
+
+/* The most numbers that a call takes. */
+enum { MOST_NUMBERS = 2 };
+
+typedef gomxeli_answer call_function(uint8_t *state, size_t len, const uint32_t *n);
+
+call_function mcq_open, mcq_front, mcq_back, mcq_is_empty, mcq_is_front, mcq_is_back, mcq_remove,
+    mcq_move_front, mcq_move_back;
+
+call_function iq_open, iq_contains, iq_get, iq_get_mut, iq_insert, iq_remove, iq_front, iq_back,
+    iq_enqueue_front, iq_enqueue_back, iq_dequeue;
+
+#endif

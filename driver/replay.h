@@ -1,0 +1,61 @@
+/*
+ * The replay program: one call a line in, one answer a line out. A kind of state
+ * describes its calls as a table of verbs; replay.c reads the lines, keeps one
+ * state of each kind, and has the words that all kinds share.
+ *
+ * A kind is a file replay_KIND.c with such a table, which replay.c lists.
+ */
+#ifndef REPLAY_H
+#define REPLAY_H
+
+#include <stdbool.h>
+#include <stddef.h>
+#include <stdint.h>
+
+#include "calls.h"
+
+/* The bytes lent to a kind's calls; none before its first opening. */
+struct state {
+    uint8_t *bytes;
+    size_t len;
+};
+
+struct verb {
+    const char *word;
+    unsigned count;                 /* how many numbers follow */
+    uint32_t largest[MOST_NUMBERS]; /* what each of them may be at most */
+
+    /* The call, and how its answer is printed. */
+    call_function *call;
+    void (*print)(gomxeli_answer answer);
+
+    /* Or, where that is not all: makes the call and prints, but not the line's end. */
+    void (*run)(struct state *state, const uint32_t *n);
+};
+
+#define ANY_NUMBER UINT32_MAX
+
+/* The tables, each ended by a verb with no word. */
+extern const struct verb mcq_verbs[];
+extern const struct verb iq_verbs[];
+extern const struct verb frame_verbs[];
+
+/*
+ * Opens a state of the length that the sizes have, or, where that is 0 because
+ * they are not allowed, tries to open the present one.
+ */
+void open_state(struct state *state, size_t len, call_function *open, const uint32_t *n);
+
+/* Prints the refusal and answers yes, or prints nothing and answers no. */
+bool print_refusal(gomxeli_answer answer);
+
+/* Print the refusal, or 0 and: nothing more; the flag; the field, - where there is none. */
+void print_done(gomxeli_answer answer);
+void print_flag(gomxeli_answer answer);
+void print_first(gomxeli_answer answer);
+void print_second(gomxeli_answer answer);
+
+/* Prints numbers parted by commas, or - if there are none. */
+void print_list(const uint8_t *numbers, unsigned count);
+
+#endif

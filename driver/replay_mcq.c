@@ -1,0 +1,55 @@
+/* Lines of the lists: `mcq ..`. */
+#include <stdio.h>
+
+#include "replay.h"
+#include "state_mcq.h"
+
+static void run_open(struct state *state, const uint32_t *n)
+{
+    open_state(state, gomxeli_mcq_length(n[0], n[1]), mcq_open, n);
+}
+
+/* The classes that hold entries, and how many entries stand in none. */
+static void print_lists(const struct lists *lists)
+{
+    unsigned lone = lists->entries;
+    const char *before = "";
+    printf("q=");
+    for (unsigned c = 0; c < lists->classes; c++) {
+        const struct list *list = &lists->list[c];
+        if (list->count == 0)
+            continue;
+        printf("%s%u=", before, c);
+        print_list(list->entry, list->count);
+        lone -= list->count;
+        before = ";";
+    }
+    printf("%s lone=%u", *before == '\0' ? "-" : "", lone);
+}
+
+/* A whole state has a class 0, so the call refuses only what is not whole. */
+static void run_read_back(struct state *state, const uint32_t *n)
+{
+    static struct lists lists;
+    (void)n;
+    if (print_refusal(gomxeli_mcq_is_empty(state->bytes, state->len, 0)))
+        return;
+    lists_read(state->bytes, &lists);
+    print_lists(&lists);
+}
+
+#define ANY ANY_NUMBER
+
+const struct verb mcq_verbs[] = {
+    {"open", 2, {ANY, ANY}, NULL, NULL, run_open},
+    {"front", 1, {ANY}, mcq_front, print_first, NULL},
+    {"back", 1, {ANY}, mcq_back, print_first, NULL},
+    {"empty", 1, {ANY}, mcq_is_empty, print_flag, NULL},
+    {"isfront", 1, {ANY}, mcq_is_front, print_first, NULL},
+    {"isback", 1, {ANY}, mcq_is_back, print_first, NULL},
+    {"remove", 1, {ANY}, mcq_remove, print_done, NULL},
+    {"mf", 2, {ANY, ANY}, mcq_move_front, print_done, NULL},
+    {"mb", 2, {ANY, ANY}, mcq_move_back, print_done, NULL},
+    {"D", 0, {0}, NULL, NULL, run_read_back},
+    {NULL, 0, {0}, NULL, NULL, NULL},
+};

@@ -1,0 +1,454 @@
+/*
+ * gomxeli.h: registries and queues for a Cyphal/CAN node, over lent bytes. So far
+ * the lists, the key queues, the identifiers, sets of priorities and the tail byte.
+ *
+ * The functions are written and proved in Rattle. `rt staticlib gomxeli` puts
+ * them into target/staticlib/libgomxeli.a; a program includes this header and
+ * links that archive.
+ *
+ *     #include "gomxeli.h"
+ *
+ *     static uint8_t queue[GOMXELI_MCQ_LENGTH(2, 8)];
+ *
+ *     gomxeli_mcq_open(queue, sizeof queue, 2, 8);
+ *     gomxeli_mcq_move_back(queue, sizeof queue, 0, 5);
+ *     gomxeli_answer a = gomxeli_mcq_front(queue, sizeof queue, 0);
+ *     if (gomxeli_number(a) == GOMXELI_ACCEPTED && gomxeli_what(a) == 1)
+ *         serve(gomxeli_first(a));             // entry 5
+ *
+ * STATE
+ *
+ * A state is an array of bytes that the caller owns and lends to each call as
+ * a pointer and a length. The library keeps nothing between calls: no globals,
+ * no heap, no pointer into a state. So a state may be copied, stored, sent and
+ * restored as plain bytes, needs no alignment, and belongs to one thread at a
+ * time. Each kind of state has lengths that no other kind has at any size.
+ *
+ * An opening call writes every byte of a state, whatever the bytes held. The
+ * other calls first test that the bytes are whole, that is, that they are a
+ * state of their kind by docs/STATES.md; bytes that are not are refused
+ * with 1, so a state may come from anywhere. The test takes a time linear in the
+ * length.
+ *
+ * The pointer must be valid for the length given with it. It may be NULL where
+ * the length is 0.
+ *
+ * ANSWERS AND REFUSALS
+ *
+ * Every call answers one 64-bit number, which gomxeli_number, gomxeli_what,
+ * gomxeli_first and gomxeli_second take apart. The number is 0 where the call
+ * was accepted, and else the refusal's. Each call's comment says what the other
+ * fields hold where it is accepted; a field that it does not mention is 0.
+ *
+ * A refused call leaves every lent byte as it was, and its answer's other
+ * fields are 0; only GOMXELI_NOT_TAKEN has the key first and the value second.
+ * Each call's comment lists the refusals that it can give. Where several apply,
+ * the answer is the one listed first.
+ */
+#ifndef GOMXELI_H
+#define GOMXELI_H
+
+#include <stddef.h>
+#include <stdint.h>
+
+#ifdef __cplusplus
+extern "C" {
+#endif
+
+/* ------------------------------------------------------------------------ */
+/* Answers                                                                  */
+/* ------------------------------------------------------------------------ */
+
+/*
+ * bits 0 to 7 the number, 8 to 15 what, 16 to 31 the first field, 32 to 63 the
+ * second.
+ */
+typedef uint64_t gomxeli_answer;
+
+/*
+ * The refusals of all kinds of state, also of those to come, in the order in which
+ * a call looks for them, which is not that of their numbers. Opening a list or a
+ * key queue looks for GOMXELI_SIZE first.
+ */
+enum gomxeli_refusal {
+    GOMXELI_ACCEPTED = 0,
+    GOMXELI_NOT_WHOLE = 1,       /* the bytes are not a whole state of the kind */
+    GOMXELI_ENTRY_RANGE = 2,     /* registry entry above 127 */
+    GOMXELI_RANGE = 3,           /* subject, service, priority or opening slots past
+                                    its end; a range whose first passes its last;
+                                    an mtu other than 8 or 64 */
+    GOMXELI_BAD_IMAGE = 4,       /* a filter image of other than 1,024 bytes */
+    GOMXELI_PICK_OPEN = 10,      /* a pick is open, and the call neither settles nor opens */
+    GOMXELI_NO_PICK = 11,        /* settlement with no pick open */
+    GOMXELI_BAD_FRAME = 12,      /* settlement: the frame is empty, longer than the
+                                    pick's mtu, or of another priority */
+    GOMXELI_REGISTERED = 5,      /* registering: the entry is registered already */
+    GOMXELI_NO_SUBJECT_SLOT = 6, /* registering: no subject slot is left */
+    GOMXELI_OCCUPIED = 7,        /* registering: the service or subject is occupied */
+    GOMXELI_NOT_REGISTERED = 8,  /* removing, new readiness: the entry is not registered */
+    GOMXELI_SLOTS_FULL = 9,      /* removing: the slot counter would pass 65,535 */
+    GOMXELI_SIZE = 13,           /* class or list entry past the size; a list or key
+                                    queue size, or K_MAX, that is not allowed */
+    GOMXELI_NOT_TAKEN = 14,      /* insert: key above K_MAX, or key new and no entry free */
+    GOMXELI_NO_KEY = 15,         /* enqueue, dequeue: there is no such key */
+    GOMXELI_VALUE_GONE = 16,     /* insert, remove: the key's value was handed back before */
+    GOMXELI_NO_CALL = 17         /* a program's line is not a call; no function answers it */
+};
+
+/* 0: accepted; else one of enum gomxeli_refusal. */
+static inline unsigned gomxeli_number(gomxeli_answer answer)
+{
+    return (unsigned)(answer & 0xffu);
+}
+
+/* A flag, or whether there is a value. */
+static inline unsigned gomxeli_what(gomxeli_answer answer)
+{
+    return (unsigned)((answer >> 8) & 0xffu);
+}
+
+/* An entry, a class, a key, an identifier, a set. */
+static inline uint16_t gomxeli_first(gomxeli_answer answer)
+{
+    return (uint16_t)((answer >> 16) & 0xffffu);
+}
+
+/* A value. */
+static inline uint32_t gomxeli_second(gomxeli_answer answer)
+{
+    return (uint32_t)(answer >> 32);
+}
+
+/* ------------------------------------------------------------------------ */
+/* Lists: MultiClassQueue                                                   */
+/* ------------------------------------------------------------------------ */
+
+/*
+ * Some classes, each a list of entries. An entry is a number below the count of
+ * entries; it stands in at most one class, and there once. The sizes are fixed
+ * at opening: 1 to 32 classes, 0 to 224 entries.
+ */
+#define GOMXELI_MCQ_CLASSES_MAX 32
+#define GOMXELI_MCQ_ENTRIES_MAX 224
+
+/* The length of a state of allowed sizes, as a constant for an array. */
+#define GOMXELI_MCQ_LENGTH(classes, entries) \
+    ((size_t)2 + 2 * ((size_t)(classes) + (size_t)(entries)))
+
+/* The length of a state of these sizes; 0 where they are not allowed. */
+static inline size_t gomxeli_mcq_length(uint32_t classes, uint32_t entries)
+{
+    if (classes < 1 || classes > GOMXELI_MCQ_CLASSES_MAX || entries > GOMXELI_MCQ_ENTRIES_MAX)
+        return 0;
+    return GOMXELI_MCQ_LENGTH(classes, entries);
+}
+
+/*
+ * Opens a state: every class empty, every entry in none. Writes every byte and
+ * looks at none.
+ *
+ * GOMXELI_SIZE       classes not 1 to 32, or entries above 224, whatever len is
+ * GOMXELI_NOT_WHOLE  len is not gomxeli_mcq_length(classes, entries)
+ */
+gomxeli_answer gomxeli_mcq_open(uint8_t *state, size_t len, uint32_t classes, uint32_t entries);
+
+/*
+ * The entry at the front, or the back, of a class.
+ * what 1: first is the entry. what 0: the class is empty.
+ *
+ * GOMXELI_NOT_WHOLE
+ * GOMXELI_SIZE       cls is not below the state's classes
+ */
+gomxeli_answer gomxeli_mcq_front(const uint8_t *state, size_t len, uint32_t cls);
+gomxeli_answer gomxeli_mcq_back(const uint8_t *state, size_t len, uint32_t cls);
+
+/*
+ * Whether a class is empty.
+ * what 1: yes. what 0: no.
+ *
+ * GOMXELI_NOT_WHOLE
+ * GOMXELI_SIZE       cls is not below the state's classes
+ */
+gomxeli_answer gomxeli_mcq_is_empty(const uint8_t *state, size_t len, uint32_t cls);
+
+/*
+ * The class at whose front, or back, an entry stands.
+ * what 1: first is the class. what 0: the entry stands at no front (no back).
+ *
+ * GOMXELI_NOT_WHOLE
+ * GOMXELI_SIZE       entry is not below the state's entries
+ */
+gomxeli_answer gomxeli_mcq_is_front(const uint8_t *state, size_t len, uint32_t entry);
+gomxeli_answer gomxeli_mcq_is_back(const uint8_t *state, size_t len, uint32_t entry);
+
+/*
+ * Takes an entry out of its class. Where it is in none, nothing changes.
+ *
+ * GOMXELI_NOT_WHOLE
+ * GOMXELI_SIZE       entry is not below the state's entries
+ */
+gomxeli_answer gomxeli_mcq_remove(uint8_t *state, size_t len, uint32_t entry);
+
+/*
+ * Takes an entry out of its class, if it is in one, and puts it at the front,
+ * or the back, of a class: another, or the same.
+ *
+ * GOMXELI_NOT_WHOLE
+ * GOMXELI_SIZE       cls is not below the state's classes, or entry is not
+ *                    below the state's entries
+ */
+gomxeli_answer gomxeli_mcq_move_front(uint8_t *state, size_t len, uint32_t cls, uint32_t entry);
+gomxeli_answer gomxeli_mcq_move_back(uint8_t *state, size_t len, uint32_t cls, uint32_t entry);
+
+/* ------------------------------------------------------------------------ */
+/* Key queues: IndexQueue                                                   */
+/* ------------------------------------------------------------------------ */
+
+/*
+ * A map from keys to values, and a queue of some of its keys. Keys are 16-bit
+ * numbers from 0 to K_MAX, values 32-bit numbers. The sizes are fixed at
+ * opening: K_MAX 0 to 8,191, and 0 to 222 entries, which is how many keys the
+ * map holds at most.
+ *
+ * A second insert of a key hands back the value that the key had, and does not
+ * keep the new one. From then on the key has no value: insert and remove of it
+ * are refused with 16, and nothing frees its entry but opening anew. It is still
+ * contained and may still be enqueued and dequeued.
+ */
+#define GOMXELI_IQ_KEY_MAX 8191
+#define GOMXELI_IQ_ENTRIES_MAX 222
+
+/* The length of a state of allowed sizes, as a constant for an array. */
+#define GOMXELI_IQ_LENGTH(k_max, entries) \
+    ((size_t)11 + 8 * (size_t)(entries) + 4 * (((size_t)(k_max) + 1) / 4))
+
+/* The length of a state of these sizes; 0 where they are not allowed. */
+static inline size_t gomxeli_iq_length(uint32_t k_max, uint32_t entries)
+{
+    if (k_max > GOMXELI_IQ_KEY_MAX || entries > GOMXELI_IQ_ENTRIES_MAX)
+        return 0;
+    return GOMXELI_IQ_LENGTH(k_max, entries);
+}
+
+/*
+ * Opens a state: no keys, the queue empty. Writes every byte and looks at none.
+ *
+ * GOMXELI_SIZE       k_max above 8,191, or entries above 222, whatever len is
+ * GOMXELI_NOT_WHOLE  len is not gomxeli_iq_length(k_max, entries)
+ */
+gomxeli_answer gomxeli_iq_open(uint8_t *state, size_t len, uint32_t k_max, uint32_t entries);
+
+/*
+ * Whether the key is in the map, with its value or without. A key above K_MAX
+ * is not.
+ * what 1: yes. what 0: no.
+ *
+ * GOMXELI_NOT_WHOLE
+ */
+gomxeli_answer gomxeli_iq_contains(const uint8_t *state, size_t len, uint16_t key);
+
+/*
+ * The key's value.
+ * what 1: second is the value. what 0: there is none, because the key is not in
+ * the map or its value was handed back.
+ *
+ * GOMXELI_NOT_WHOLE
+ */
+gomxeli_answer gomxeli_iq_get(const uint8_t *state, size_t len, uint16_t key);
+
+/*
+ * Stores a value where the key has one.
+ * what 1: stored. what 0: the key has no value (see gomxeli_iq_get), and nothing
+ * changes.
+ *
+ * GOMXELI_NOT_WHOLE
+ */
+gomxeli_answer gomxeli_iq_get_mut(uint8_t *state, size_t len, uint16_t key, uint32_t value);
+
+/*
+ * Puts a new key and its value into the map; the key is not in the queue then.
+ * For a key that is there already, its value is handed back and the new value
+ * is not kept.
+ * what 0: the key was new and is in. what 1: second is the value handed back.
+ *
+ * GOMXELI_NOT_WHOLE
+ * GOMXELI_NOT_TAKEN   key above K_MAX, or the key is new and no entry is free;
+ *                     first is the key, second the value
+ * GOMXELI_VALUE_GONE  the key's value was handed back before
+ */
+gomxeli_answer gomxeli_iq_insert(uint8_t *state, size_t len, uint16_t key, uint32_t value);
+
+/*
+ * Takes a key out of the map, and out of the queue if it is there. Its entry
+ * becomes the last of the free ones.
+ * what 1: second is the key's value. what 0: the key is not in the map, and
+ * nothing changes.
+ *
+ * GOMXELI_NOT_WHOLE
+ * GOMXELI_VALUE_GONE  the key's value was handed back before
+ */
+gomxeli_answer gomxeli_iq_remove(uint8_t *state, size_t len, uint16_t key);
+
+/*
+ * The key at the front, or the back, of the queue.
+ * what 1: first is the key. what 0: the queue is empty.
+ *
+ * GOMXELI_NOT_WHOLE
+ */
+gomxeli_answer gomxeli_iq_front(const uint8_t *state, size_t len);
+gomxeli_answer gomxeli_iq_back(const uint8_t *state, size_t len);
+
+/*
+ * Puts a key at the front, or the back, of the queue; a key that is in the
+ * queue moves there.
+ *
+ * GOMXELI_NOT_WHOLE
+ * GOMXELI_NO_KEY     the key is not in the map, or above K_MAX
+ */
+gomxeli_answer gomxeli_iq_enqueue_front(uint8_t *state, size_t len, uint16_t key);
+gomxeli_answer gomxeli_iq_enqueue_back(uint8_t *state, size_t len, uint16_t key);
+
+/*
+ * Takes a key out of the queue, not out of the map. Where it is not in the
+ * queue, nothing changes.
+ *
+ * GOMXELI_NOT_WHOLE
+ * GOMXELI_NO_KEY     the key is not in the map, or above K_MAX
+ */
+gomxeli_answer gomxeli_iq_dequeue(uint8_t *state, size_t len, uint16_t key);
+
+/* ------------------------------------------------------------------------ */
+/* Identifiers                                                              */
+/* ------------------------------------------------------------------------ */
+
+#define GOMXELI_SUBJECT_ID_MAX 8191
+#define GOMXELI_SERVICE_ID_MAX 511
+#define GOMXELI_NODE_ID_MAX 127
+#define GOMXELI_TRANSFER_ID_MAX 31
+#define GOMXELI_PRIORITY_MAX 7
+
+/*
+ * A number as an identifier.
+ * what 1: first is the identifier, the number itself. what 0: the number is
+ * above the largest identifier. Never refused.
+ */
+gomxeli_answer gomxeli_subject_id_new(uint16_t value);
+gomxeli_answer gomxeli_service_id_new(uint16_t value);
+gomxeli_answer gomxeli_node_id_new(uint8_t value);
+gomxeli_answer gomxeli_transfer_id_new(uint8_t value);
+gomxeli_answer gomxeli_priority_try_from_u8(uint8_t value);
+
+/*
+ * A number's low bits as an identifier: 13 bits for a subject, 9 for a service,
+ * 7 for a node, 5 for a transfer, 3 for a priority.
+ * first is the identifier. Never refused.
+ */
+gomxeli_answer gomxeli_subject_id_from_u16_truncating(uint16_t value);
+gomxeli_answer gomxeli_service_id_from_u16_truncating(uint16_t value);
+gomxeli_answer gomxeli_node_id_from_u8_truncating(uint8_t value);
+gomxeli_answer gomxeli_transfer_id_from_u8_truncating(uint8_t value);
+gomxeli_answer gomxeli_priority_from_u8_truncating(uint8_t value);
+
+/*
+ * The transfer identifier after this one; 0 comes after 31. Of the argument only
+ * the low 5 bits count.
+ * first is the identifier. Never refused.
+ */
+gomxeli_answer gomxeli_transfer_id_next(uint8_t transfer_id);
+
+/* ------------------------------------------------------------------------ */
+/* Priorities and sets of them                                              */
+/* ------------------------------------------------------------------------ */
+
+/*
+ * Priorities are 0, the most urgent, to 7. A set of them is a byte: priority p
+ * is in the set where bit p is 1. Every byte is a set. Where a call below has a
+ * priority for argument, it is refused with
+ *
+ * GOMXELI_RANGE      priority above 7
+ *
+ * and no call is refused otherwise.
+ */
+
+/*
+ * The next larger number (less urgent), and the next smaller.
+ * what 1: first is the priority. what 0: there is none, after 7 or before 0.
+ */
+gomxeli_answer gomxeli_priority_next(uint8_t priority);
+gomxeli_answer gomxeli_priority_prev(uint8_t priority);
+
+/*
+ * The set of the priorities that are equal to the one given, from it on (ge), up
+ * to it (le), above it (gt), below it (lt), by number.
+ * first is the set.
+ */
+gomxeli_answer gomxeli_priority_set_new_eq(uint8_t priority);
+gomxeli_answer gomxeli_priority_set_new_ge(uint8_t priority);
+gomxeli_answer gomxeli_priority_set_new_le(uint8_t priority);
+gomxeli_answer gomxeli_priority_set_new_gt(uint8_t priority);
+gomxeli_answer gomxeli_priority_set_new_lt(uint8_t priority);
+
+/* Whether a priority is in the set. what 1: yes. what 0: no. */
+gomxeli_answer gomxeli_priority_set_contains(uint8_t bits, uint8_t priority);
+
+/* The set with the priority, and without it. first is the set. */
+gomxeli_answer gomxeli_priority_set_insert(uint8_t bits, uint8_t priority);
+gomxeli_answer gomxeli_priority_set_remove(uint8_t bits, uint8_t priority);
+
+/*
+ * The smallest (most urgent) and the largest priority of the set.
+ * what 1: first is the priority. what 0: the set is empty.
+ */
+gomxeli_answer gomxeli_priority_set_first(uint8_t bits);
+gomxeli_answer gomxeli_priority_set_last(uint8_t bits);
+
+/* Whether the set is empty. what 1: yes. what 0: no. */
+gomxeli_answer gomxeli_priority_set_is_empty(uint8_t bits);
+
+/* The priorities that are not in the set, under two names. first is the set. */
+gomxeli_answer gomxeli_priority_set_complement(uint8_t bits);
+gomxeli_answer gomxeli_priority_set_not(uint8_t bits);
+
+/* Intersection and union. first is the set. */
+gomxeli_answer gomxeli_priority_set_bitand(uint8_t a, uint8_t b);
+gomxeli_answer gomxeli_priority_set_bitor(uint8_t a, uint8_t b);
+
+/*
+ * One step of a walk over the set, from the most urgent on.
+ * what 1: first is the priority, second the set that is left for the next step.
+ * what 0: the set is empty.
+ */
+gomxeli_answer gomxeli_priority_set_iter_next(uint8_t bits);
+
+/* ------------------------------------------------------------------------ */
+/* The tail byte of a frame                                                 */
+/* ------------------------------------------------------------------------ */
+
+/*
+ * A tail byte of these parts: start of transfer in bit 7, end of transfer in bit
+ * 6, toggle in bit 5, each set where the argument is not 0, and the low 5 bits of
+ * the transfer identifier.
+ * first is the byte. Never refused.
+ */
+gomxeli_answer gomxeli_tail_byte_new(uint8_t sot, uint8_t eot, uint8_t toggle, uint8_t transfer_id);
+
+/* A part of a tail byte. what 1: set. what 0: not. Never refused. */
+gomxeli_answer gomxeli_tail_byte_sot(uint8_t byte);
+gomxeli_answer gomxeli_tail_byte_eot(uint8_t byte);
+gomxeli_answer gomxeli_tail_byte_toggle(uint8_t byte);
+
+/* A tail byte's transfer identifier. first is the identifier. Never refused. */
+gomxeli_answer gomxeli_tail_byte_transfer_id(uint8_t byte);
+
+/*
+ * Whether a frame, whose last byte is its tail byte, ends a transfer.
+ * what 1: first is 1 if it does, 0 if not. what 0: the frame is empty and has no
+ * tail byte. Never refused.
+ */
+gomxeli_answer gomxeli_is_eot_frame(const uint8_t *frame, size_t len);
+
+#ifdef __cplusplus
+}
+#endif
+
+#endif

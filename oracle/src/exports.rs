@@ -1,0 +1,148 @@
+//! The exports of libgomxeli.a behind safe functions, and the answer that each of them gives.
+
+use std::fmt;
+
+/// Number, what, first and second, packed as the exports pack them.
+#[derive(Clone, Copy, PartialEq, Eq)]
+pub struct Answer(pub u64);
+
+impl Answer {
+    pub const DONE: Answer = Answer(0);
+
+    pub const fn new(number: u8, what: u8, first: u16, second: u32) -> Self {
+        Self(number as u64 | (what as u64) << 8 | (first as u64) << 16 | (second as u64) << 32)
+    }
+
+    pub const fn refused(number: u8) -> Self {
+        Self::new(number, 0, 0, 0)
+    }
+
+    pub const fn flag(what: bool) -> Self {
+        Self::new(0, what as u8, 0, 0)
+    }
+
+    pub const fn first(first: u16) -> Self {
+        Self::new(0, 0, first, 0)
+    }
+
+    pub fn found<T: Into<u16>>(found: Option<T>) -> Self {
+        found.map_or(Self::DONE, |first| Self::new(0, 1, first.into(), 0))
+    }
+
+    pub fn value(found: Option<u32>) -> Self {
+        found.map_or(Self::DONE, |second| Self::new(0, 1, 0, second))
+    }
+
+    pub fn number(self) -> u8 {
+        self.0 as u8
+    }
+}
+
+impl fmt::Display for Answer {
+    fn fmt(&self, f: &mut fmt::Formatter) -> fmt::Result {
+        let Answer(bits) = *self;
+        let (what, first, second) = (bits >> 8 & 0xff, bits >> 16 & 0xffff, bits >> 32);
+        write!(
+            f,
+            "number {} what {what} first {first} second {second}",
+            self.number()
+        )
+    }
+}
+
+/// Declares each export and a function that calls it: `plain` takes numbers, `read` a state or frame
+/// before them, `write` a state to be changed.
+macro_rules! exports {
+    (
+        plain { $($plain:ident($($pa:ident: $pt:ty),*);)* }
+        read { $($read:ident($($ra:ident: $rt:ty),*);)* }
+        write { $($write:ident($($wa:ident: $wt:ty),*);)* }
+    ) => {
+        mod raw {
+            #[link(name = "gomxeli", kind = "static")]
+            unsafe extern "C" {
+                $(#[link_name = concat!("gomxeli_", stringify!($plain))]
+                pub safe fn $plain($($pa: $pt),*) -> u64;)*
+                $(#[link_name = concat!("gomxeli_", stringify!($read))]
+                pub fn $read(bytes: *const u8, length: usize, $($ra: $rt),*) -> u64;)*
+                $(#[link_name = concat!("gomxeli_", stringify!($write))]
+                pub fn $write(bytes: *mut u8, length: usize, $($wa: $wt),*) -> u64;)*
+            }
+        }
+        $(pub fn $plain($($pa: $pt),*) -> Answer {
+            Answer(raw::$plain($($pa),*))
+        })*
+        $(pub fn $read(bytes: &[u8], $($ra: $rt),*) -> Answer {
+            // SAFETY: the export reads the given bytes and keeps no pointer.
+            Answer(unsafe { raw::$read(bytes.as_ptr(), bytes.len(), $($ra),*) })
+        })*
+        $(pub fn $write(bytes: &mut [u8], $($wa: $wt),*) -> Answer {
+            // SAFETY: the export reads and writes the given bytes and keeps no pointer.
+            Answer(unsafe { raw::$write(bytes.as_mut_ptr(), bytes.len(), $($wa),*) })
+        })*
+    };
+}
+
+exports! {
+    plain {
+        subject_id_new(value: u16);
+        service_id_new(value: u16);
+        node_id_new(value: u8);
+        transfer_id_new(value: u8);
+        priority_try_from_u8(value: u8);
+        subject_id_from_u16_truncating(value: u16);
+        service_id_from_u16_truncating(value: u16);
+        node_id_from_u8_truncating(value: u8);
+        transfer_id_from_u8_truncating(value: u8);
+        priority_from_u8_truncating(value: u8);
+        transfer_id_next(id: u8);
+        priority_next(priority: u8);
+        priority_prev(priority: u8);
+        priority_set_new_eq(priority: u8);
+        priority_set_new_ge(priority: u8);
+        priority_set_new_le(priority: u8);
+        priority_set_new_gt(priority: u8);
+        priority_set_new_lt(priority: u8);
+        priority_set_contains(bits: u8, priority: u8);
+        priority_set_insert(bits: u8, priority: u8);
+        priority_set_remove(bits: u8, priority: u8);
+        priority_set_first(bits: u8);
+        priority_set_last(bits: u8);
+        priority_set_is_empty(bits: u8);
+        priority_set_complement(bits: u8);
+        priority_set_not(bits: u8);
+        priority_set_bitand(a: u8, b: u8);
+        priority_set_bitor(a: u8, b: u8);
+        priority_set_iter_next(bits: u8);
+        tail_byte_new(sot: u8, eot: u8, toggle: u8, transfer_id: u8);
+        tail_byte_sot(byte: u8);
+        tail_byte_eot(byte: u8);
+        tail_byte_toggle(byte: u8);
+        tail_byte_transfer_id(byte: u8);
+    }
+    read {
+        is_eot_frame();
+        mcq_front(class: u32);
+        mcq_back(class: u32);
+        mcq_is_empty(class: u32);
+        mcq_is_front(entry: u32);
+        mcq_is_back(entry: u32);
+        iq_contains(key: u16);
+        iq_get(key: u16);
+        iq_front();
+        iq_back();
+    }
+    write {
+        mcq_open(classes: u32, entries: u32);
+        mcq_remove(entry: u32);
+        mcq_move_front(class: u32, entry: u32);
+        mcq_move_back(class: u32, entry: u32);
+        iq_open(k_max: u32, entries: u32);
+        iq_get_mut(key: u16, value: u32);
+        iq_insert(key: u16, value: u32);
+        iq_remove(key: u16);
+        iq_enqueue_front(key: u16);
+        iq_enqueue_back(key: u16);
+        iq_dequeue(key: u16);
+    }
+}

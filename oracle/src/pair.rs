@@ -1,0 +1,154 @@
+//! One state on both sides, ours and the Rust's. Each kind of state implements `Pair` in a file of
+//! its own; `runs` drives whatever implements it.
+
+use crate::exports::Answer;
+use crate::rng::Rng;
+use crate::tally::Expected;
+use std::fmt;
+use std::ops::{Deref, DerefMut};
+
+/// What a call is for, by which it is drawn.
+#[derive(Clone, Copy, PartialEq, Eq)]
+pub enum Role {
+    Open,
+    Read,
+    Grow,
+    Shrink,
+}
+
+/// A call of one kind. `code` is its number in the recorded list.
+pub struct Op {
+    pub code: u8,
+    pub kind: &'static str,
+    pub name: &'static str,
+    pub args: usize,
+    pub role: Role,
+}
+
+/// The codes of a kind's calls as constants, a table of the calls, and how to write one.
+macro_rules! ops {
+    ($kind:literal: $($op:ident = $code:literal $name:literal $args:literal $role:ident;)*) => {
+        $(pub const $op: u8 = $code;)*
+
+        pub static OPS: &[$crate::pair::Op] = &[$($crate::pair::Op {
+            code: $code, kind: $kind, name: $name, args: $args, role: $crate::pair::Role::$role,
+        }),*];
+
+        pub fn call(code: u8, args: &[u32]) -> $crate::pair::Call {
+            let op = OPS.iter().find(|op| op.code == code).expect("a code of this kind");
+            $crate::pair::Call::new(op, args)
+        }
+    };
+}
+pub(crate) use ops;
+
+#[derive(Clone, Copy)]
+pub struct Call {
+    pub op: &'static Op,
+    pub args: [u32; 3],
+}
+
+impl Call {
+    pub fn new(op: &'static Op, args: &[u32]) -> Self {
+        let mut call = Self { op, args: [0; 3] };
+        call.args[..args.len()].copy_from_slice(args);
+        call
+    }
+}
+
+impl fmt::Display for Call {
+    fn fmt(&self, f: &mut fmt::Formatter) -> fmt::Result {
+        write!(f, "{} {}", self.op.kind, self.op.name)?;
+        self.args[..self.op.args]
+            .iter()
+            .try_for_each(|arg| write!(f, " {arg}"))
+    }
+}
+
+/// Bytes lent to the exports, between margins that nobody may touch.
+pub struct Lent(Vec<u8>);
+
+impl Lent {
+    const MARGIN: usize = 16;
+    const FILL: u8 = 0xa5;
+
+    /// Filled from `soil`: opening must not depend on it.
+    pub fn new(length: usize, soil: u64) -> Self {
+        let mut rng = Rng::new(soil);
+        let mut bytes = vec![Self::FILL; length + 2 * Self::MARGIN];
+        bytes[Self::MARGIN..][..length].fill_with(|| rng.next() as u8);
+        Self(bytes)
+    }
+
+    pub fn margins_stand(&self) -> bool {
+        let end = self.0.len() - Self::MARGIN;
+        self.0[..Self::MARGIN]
+            .iter()
+            .chain(&self.0[end..])
+            .all(|&byte| byte == Self::FILL)
+    }
+}
+
+impl Deref for Lent {
+    type Target = [u8];
+
+    fn deref(&self) -> &[u8] {
+        &self.0[Self::MARGIN..self.0.len() - Self::MARGIN]
+    }
+}
+
+impl DerefMut for Lent {
+    fn deref_mut(&mut self) -> &mut [u8] {
+        let end = self.0.len() - Self::MARGIN;
+        &mut self.0[Self::MARGIN..end]
+    }
+}
+
+pub trait Pair {
+    fn ops(&self) -> &'static [Op];
+
+    /// The call that opens a state of this size.
+    fn opening(&self) -> Call;
+
+    /// A call of `op` with arguments at random, in and past the limits.
+    fn draw(&self, op: &'static Op, rng: &mut Rng) -> Call;
+
+    /// Every call from a small state, with one number past each limit.
+    fn every_call(&self) -> Vec<Call>;
+
+    /// What document 01 answers where the Rust is not asked, found from the Rust's own state.
+    fn unasked(&self, call: Call) -> Option<Answer>;
+
+    /// Puts the call to the Rust; its answer, packed as the exports pack it.
+    fn put(&mut self, call: Call) -> Answer;
+
+    /// Makes the call on the lent bytes through its export.
+    fn make(&mut self, call: Call) -> Answer;
+
+    fn lent(&self) -> &Lent;
+
+    /// Lays the Rust's state over the bytes before the call, as docs/ gives the layout.
+    fn lay(&self, over: &mut [u8]);
+
+    /// The Rust's state in words.
+    fn rust_state(&self) -> String;
+
+    /// The lent bytes in the same words, read by the layout.
+    fn our_state(&self) -> String;
+
+    fn ask(&mut self, call: Call) -> Expected {
+        match self.unasked(call) {
+            Some(answer) => Expected::Unasked(answer),
+            None => Expected::Asked(self.put(call)),
+        }
+    }
+}
+
+/// A size of a kind at which pairs are run.
+pub struct Size {
+    pub name: String,
+    /// Its part of the random calls, against the other sizes' parts.
+    pub share: u64,
+    /// Both sides, before their opening.
+    pub open: fn(soil: u64) -> Box<dyn Pair>,
+}

@@ -1,0 +1,208 @@
+//! The shortest sequences in which the Rust panics where document 01 refuses or leaves the answer open,
+//! and sizes that 01 does not allow. They are put to the Rust here alone, each in a queue of its own.
+
+use crate::exports::{self, Answer};
+use crate::pair::{Call, Lent, Size};
+use crate::tally::{Expected, Tally};
+use crate::{keys, lists};
+use emcyphal::utils::IndexQueue;
+use emcyphal::utils::probe::MultiClassQueue;
+use std::cell::Cell;
+use std::panic::{self, AssertUnwindSafe};
+
+thread_local! {
+    static QUIET: Cell<bool> = const { Cell::new(false) };
+}
+
+/// Lets the panics that `caught` catches print nothing.
+pub fn prepare() {
+    let loud = panic::take_hook();
+    panic::set_hook(Box::new(move |info| {
+        if !QUIET.get() {
+            loud(info);
+        }
+    }));
+}
+
+/// What `f` answers, or none where it panics.
+pub fn caught<T>(f: impl FnOnce() -> T) -> Option<T> {
+    QUIET.set(true);
+    let result = panic::catch_unwind(AssertUnwindSafe(f));
+    QUIET.set(false);
+    result.ok()
+}
+
+struct Case {
+    size: Size,
+    /// After the opening; the Rust panics on the last one.
+    calls: Vec<Call>,
+    ours: Answer,
+    /// What the panic leaves of the Rust's state, where that is not what was there before.
+    leaves: Option<&'static str>,
+}
+
+fn list_cases() -> Vec<Case> {
+    use lists::*;
+    let past_class = [FRONT, BACK, IS_EMPTY].map(|code| call(code, &[1]));
+    let past_entry = [IS_FRONT, IS_BACK, REMOVE].map(|code| call(code, &[1]));
+    let past_either =
+        [[1, 0], [0, 1]].map(|args| [MOVE_FRONT, MOVE_BACK].map(|code| call(code, &args)));
+    let calls = past_class
+        .into_iter()
+        .chain(past_entry)
+        .chain(past_either.into_iter().flatten());
+    calls
+        .map(|call| Case {
+            size: size::<1, 1>(0),
+            calls: vec![call],
+            ours: Answer::refused(13),
+            leaves: None,
+        })
+        .collect()
+}
+
+fn key_cases() -> Vec<Case> {
+    use keys::*;
+    let handed_back = [call(INSERT, &[3, 7]), call(INSERT, &[3, 9])];
+    let freed = "keys= index= queue=[] free=[1, 0]";
+    let last = [
+        (call(GET, &[3]), Answer::DONE, None),
+        (call(GET_MUT, &[3, 5]), Answer::DONE, None),
+        (call(INSERT, &[3, 5]), Answer::refused(16), None),
+        (call(REMOVE, &[3]), Answer::refused(16), Some(freed)),
+    ];
+    let case = |(call, ours, leaves)| {
+        let calls = handed_back.into_iter().chain([call]).collect();
+        Case {
+            size: size::<3, 2>(0),
+            calls,
+            ours,
+            leaves,
+        }
+    };
+    last.into_iter().map(case).collect()
+}
+
+/// A size that document 01 does not allow. The Rust's `_ASSERT` constants are never evaluated: 256
+/// nodes are its only limit, found by `new`.
+struct SizeCase {
+    opening: Call,
+    open: fn(&mut [u8], u32, u32) -> Answer,
+    rust: fn(),
+    panics: bool,
+}
+
+fn list_size<const C: usize, const E: usize>(panics: bool) -> SizeCase {
+    SizeCase {
+        opening: lists::call(lists::OPEN, &[C as u32, E as u32]),
+        open: exports::mcq_open,
+        rust: || _ = MultiClassQueue::<C, E>::new(),
+        panics,
+    }
+}
+
+fn key_size<const K_MAX: usize, const N: usize>(panics: bool) -> SizeCase {
+    SizeCase {
+        opening: keys::call(keys::OPEN, &[K_MAX as u32, N as u32]),
+        open: exports::iq_open,
+        rust: || _ = IndexQueue::<u16, u32, K_MAX, N>::new(),
+        panics,
+    }
+}
+
+fn size_cases() -> Vec<SizeCase> {
+    vec![
+        list_size::<0, 1>(false),
+        list_size::<33, 1>(false),
+        list_size::<1, 225>(false),
+        list_size::<32, 225>(true),
+        list_size::<256, 1>(true),
+        key_size::<8192, 1>(false),
+        key_size::<0, 223>(false),
+        key_size::<0, 254>(false),
+        key_size::<0, 255>(true),
+    ]
+}
+
+/// Runs every case; with `print`, says what it showed.
+pub fn run(print: bool, tally: &mut Tally) -> Result<(), String> {
+    let mut told = |shown: String, call: Call, ours: Answer| {
+        tally.agreed("panics", call.op.name, Expected::Asked(ours));
+        if print {
+            println!("{shown}");
+        }
+    };
+    for case in list_cases().into_iter().chain(key_cases()) {
+        told(show(&case)?, case.calls[case.calls.len() - 1], case.ours);
+    }
+    for case in size_cases() {
+        told(show_size(&case)?, case.opening, Answer::refused(13));
+    }
+    Ok(())
+}
+
+fn show_size(case: &SizeCase) -> Result<String, String> {
+    let [a, b, _] = case.opening.args;
+    let mut lent = Lent::new(600, 0);
+    let ours = (case.open)(&mut lent, a, b);
+    if ours != Answer::refused(13) || lent[..] != Lent::new(600, 0)[..] {
+        return Err(format!(
+            "{}: ours {ours}, expected 13, and no byte changed",
+            case.opening
+        ));
+    }
+    if caught(case.rust).is_none() != case.panics {
+        return Err(format!(
+            "{}: the Rust panics: {}",
+            case.opening, !case.panics
+        ));
+    }
+    let rust = if case.panics { "panics" } else { "makes it" };
+    Ok(format!("{}: the Rust {rust}; ours {ours}", case.opening))
+}
+
+fn show(case: &Case) -> Result<String, String> {
+    let mut pair = (case.size.open)(0);
+    let (&last, first) = case.calls.split_last().expect("a call");
+    let opening = pair.opening();
+    for &call in [opening].iter().chain(first) {
+        pair.put(call);
+        pair.make(call);
+    }
+    let sequence: Vec<_> = [opening]
+        .iter()
+        .chain(&case.calls)
+        .map(Call::to_string)
+        .collect();
+    let sequence = sequence.join("; ");
+    let (before, lent) = (pair.rust_state(), pair.lent().to_vec());
+    if caught(|| pair.put(last)).is_some() {
+        return Err(format!("{sequence}: the Rust does not panic"));
+    }
+    let after = pair.rust_state();
+    let expected = case.leaves.unwrap_or(&before);
+    if after != expected {
+        return Err(format!(
+            "{sequence}: the Rust's state after its panic is {after}, expected {expected}"
+        ));
+    }
+    let ours = pair.make(last);
+    if ours != case.ours || pair.lent()[..] != lent {
+        return Err(format!(
+            "{sequence}: ours {ours}, expected {}, and no byte changed",
+            case.ours
+        ));
+    }
+    Ok(format!(
+        "{sequence}: the Rust panics, then {}; ours {ours}",
+        describe(&before, &after)
+    ))
+}
+
+fn describe(before: &str, after: &str) -> String {
+    if before == after {
+        "has changed nothing".into()
+    } else {
+        format!("has {after}, before {before}")
+    }
+}

@@ -380,7 +380,7 @@ static void print_met(const struct kind *kind, uint64_t counts[ORIGINS][2])
 static bool report_all(void)
 {
     bool enough = true;
-    printf("answers of each call: 0 accepted, 0+ accepted with what 1, n: refused with n\n");
+    printf("answers of each call: 0 accepted, 0+ accepted with what 1, else refused\n");
     for (unsigned k = 0; k < KINDS; k++)
         for (unsigned i = 0; i < kinds[k]->call_count; i++)
             enough = report(&kinds[k]->calls[i].tally, options.least) && enough;

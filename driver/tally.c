@@ -32,7 +32,7 @@ bool judge(struct tally *tally, gomxeli_answer got, gomxeli_answer expected, boo
 static void print_count(unsigned outcome, uint64_t count)
 {
     if (outcome <= 1)
-        printf("  0%s %" PRIu64, outcome == 1 ? "+" : "", count);
+        printf("  0%s: %" PRIu64, outcome == 1 ? "+" : "", count);
     else
         printf("  %u: %" PRIu64, outcome - 1, count);
 }

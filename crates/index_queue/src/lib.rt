@@ -143,9 +143,9 @@ pub fn insert(s: &mut [u8], key: u16, value: u32) -> Answer
         Place::At(i) => {
             let h = held_at(s, i);
             match h {
-                Held::Value(k, v) => {
+                Held::Value(k, old) => {
                     spend(s, i, k);
-                    Answer::Value(v)
+                    Answer::Value(old)
                 }
                 Held::Spent(_) => Answer::Refused(16),
                 Held::Free => Answer::Refused(16),

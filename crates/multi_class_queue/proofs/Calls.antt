@@ -9,7 +9,7 @@ use native.Mathlib.Decide.{ℕ-discrete, decLt}
 use native.Mathlib.Nat.{not-suc-le-zero}
 use lib.ListN.{length, getD, set, replicate, length-set, length-map, length-replicate}
 use lib.Dec.{ltb, leb, eqb}
-use borrow.Author.Tests.{lt-ltb, le-ltb, lt-leb, ltb-true, leb-true, eqb-true, eq-eqb, ne-eqb}
+use borrow.Author.Tests.{lt-ltb, le-ltb, lt-leb, ltb-true, ltb-false, leb-true, eqb-true, eq-eqb, ne-eqb}
 use Rattle.state.specs.Lengths.{listsAllowed, listsLength}
 use Rattle.state.specs.Seq.{each}
 use Rattle.state.specs.Result.{Result, refuse, done, answer, left, Bytes, Means}
@@ -20,6 +20,7 @@ use Rattle.state.proofs.Calls.{Ends, Kept, kept, not-whole, refused, laid-out}
 use Rattle.multi_cycle_list.specs.Nodes.{classes, entries, next, prev, wholeB, listOf, listsOf, read}
 use Rattle.multi_cycle_list.specs.Inner.{unbindB, bindAfterB, bindBeforeB, moveAfterB, moveBeforeB, aloneTo}
 use Rattle.multi_cycle_list.specs.Lists.{Lists, Fair, without, removed, pushedFront, pushedBack, withRows, without-entry, movedFront, movedBack, empty, row, first, last}
+use Rattle.multi_class_queue.specs.Inner.{refusal}
 use Rattle.multi_class_queue.specs.Calls.{inSize, none, says, which, front, back, isEmpty, isFront, isBack, remove, moveFront, moveBack, opening}
 use Rattle.multi_cycle_list.specs.Laid.{laid}
 use Rattle.multi_class_queue.specs.Calls.{over, on, bytes, Call, Front, Back, IsEmpty, IsFront, IsBack, Remove, MoveFront, MoveBack, step, Sized, ListsMean}
@@ -82,7 +83,7 @@ module _ (C : ℕ) (nx pv : ℕ → ℕ) (e : ℕ) where
   last-says (x ∷ xs) c hc p h = last-more x xs c (p .1) h
 
 module _ (s : List ℕ) (e : ℕ) (h : wholeB s ≡ true) (he : e < entries s) where
-  pub head-class : asClass s (prev s (classes s + e)) ≡ which (λ r. says e (first r)) 0 (listsOf s)
+  head-class : asClass s (prev s (classes s + e)) ≡ which (λ r. says e (first r)) 0 (listsOf s)
   unfolding listsOf
   head-class =
       let C = classes s in
@@ -97,7 +98,7 @@ module _ (s : List ℕ) (e : ℕ) (h : wholeB s ≡ true) (he : e < entries s) w
         | no q ↦ rw (le-ltb p C (omega arith)) (sym (which-none t C (listOf s) 0 (λ d hd z. q (omega (arith, u d hd z)))))
       ]
 
-  pub tail-class : asClass s (next s (classes s + e)) ≡ which (λ r. says e (last r)) 0 (listsOf s)
+  tail-class : asClass s (next s (classes s + e)) ≡ which (λ r. says e (last r)) 0 (listsOf s)
   unfolding listsOf
   tail-class =
       let C = classes s in
@@ -112,7 +113,22 @@ module _ (s : List ℕ) (e : ℕ) (h : wholeB s ≡ true) (he : e < entries s) w
         | no q ↦ rw (le-ltb p C (omega arith)) (sym (which-none t C (listOf s) 0 (λ d hd z. q (omega (arith, u d hd z)))))
       ]
 
+  pub head-in : prev s (classes s + e) < classes s → Is (prev s (classes s + e)) ≡ which (λ r. says e (first r)) 0 (listsOf s)
+  head-in q = rw (lt-ltb (prev s (classes s + e)) (classes s) q) at head-class
+
+  pub head-not : classes s ≤ prev s (classes s + e) → Nothing ≡ which (λ r. says e (first r)) 0 (listsOf s)
+  head-not q = rw (le-ltb (prev s (classes s + e)) (classes s) q) at head-class
+
+  pub tail-in : next s (classes s + e) < classes s → Is (next s (classes s + e)) ≡ which (λ r. says e (last r)) 0 (listsOf s)
+  tail-in q = rw (lt-ltb (next s (classes s + e)) (classes s) q) at tail-class
+
+  pub tail-not : classes s ≤ next s (classes s + e) → Nothing ≡ which (λ r. says e (last r)) 0 (listsOf s)
+  tail-not q = rw (le-ltb (next s (classes s + e)) (classes s) q) at tail-class
+
 -- ---- a call's end
+
+unwhole : (f : Lists → Result Answer Lists) (s : List ℕ) → wholeB s ≡ false → Ends over s (on f s) (Refused 1) s
+unwhole f s h = not-whole wholeB read over (Refused 1) f s h
 
 module _ (s : List ℕ) (h : wholeB s ≡ true) where
   -- 13
@@ -125,6 +141,38 @@ module _ (s : List ℕ) (h : wholeB s ≡ true) where
   -- a call that only asks, in the size: its answer
   pub asked : (f : Lists → Result Answer Lists) (a : Answer) → f (read s) ≡ done a (read s) → a ≡ answer (on f s)
   asked f a q = laid-out wholeB read over (Refused 1) f s h a (read s) s q (sym (laid-read s h)) .0
+
+-- what the number of `refusal` tells, where it is 0 and where it is not
+abbrev number : Bool → Bool → ℕ
+number w p = cond w (cond p 0 13) 1
+
+module _ (s : List ℕ) (i x : ℕ) where
+  pub refused-unwhole : wholeB s ≡ false → 1 ≡ refusal s i x
+  refused-unwhole h = rw h
+
+  module _ (h : wholeB s ≡ true) where
+    pub refused-past : getD s i 0 ≤ x → 13 ≡ refusal s i x
+    refused-past q = rw (h, le-ltb x (getD s i 0) q)
+
+    pub refused-not : x < getD s i 0 → 0 ≡ refusal s i x
+    refused-not q = rw (h, lt-ltb x (getD s i 0) q)
+
+none-refused : (w p : Bool) → number w p ≡ 0 → (w ≡ true) × (p ≡ true)
+none-refused true true q = (refl, refl)
+none-refused true false q = absurd (omega arith)
+none-refused false p q = absurd (omega arith)
+
+pub accepted : (s : List ℕ) (i x r : ℕ) → r ≡ refusal s i x → r ≡ 0 → (wholeB s ≡ true) × (x < getD s i 0)
+accepted s i x r q z = let a = none-refused (wholeB s) (ltb x (getD s i 0)) (sym q ∙ z) in (a .0, ltb-true x (getD s i 0) (a .1))
+
+module _ (s : List ℕ) (i x : ℕ) (f : Lists → Result Answer Lists) (out : getD s i 0 ≤ x → f (read s) ≡ refuse (Refused 13)) where
+  turned : (w p : Bool) → wholeB s ≡ w → ltb x (getD s i 0) ≡ p → number w p ≢ 0 → Ends over s (on f s) (Refused (number w p)) s
+  turned true true h q n = absurd (n refl)
+  turned true false h q n = past s h f (out (ltb-false x (getD s i 0) q))
+  turned false p h q n = unwhole f s h
+
+  pub turned-away : (r : ℕ) → r ≡ refusal s i x → r ≢ 0 → Ends over s (on f s) (Refused r) s
+  turned-away r q n = rw q (turned (wholeB s) (ltb x (getD s i 0)) refl refl (λ z. n (q ∙ z)))
 
 module _ (s : List ℕ) (c : ℕ) (hc : c < classes s) where
   class-in : ltb c (length (listsOf s)) ≡ true
@@ -308,9 +356,6 @@ mean =
     }
 
 -- ---- the ends that every call has
-
-pub unwhole : (f : Lists → Result Answer Lists) (s : List ℕ) → wholeB s ≡ false → Ends over s (on f s) (Refused 1) s
-unwhole f s h = not-whole wholeB read over (Refused 1) f s h
 
 pub opens : (s : List ℕ) (c e : ℕ) (o : Result Answer Lists) → opening (length s) c e ≡ o → Ends over s (opening (length s) c e) (answer o) (bytes s o)
 opens s c e o q = (ap (λ (x : Result Answer Lists). answer x) (sym q), ap (λ (x : Result Answer Lists). bytes s x) (sym q))

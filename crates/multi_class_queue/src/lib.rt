@@ -8,8 +8,10 @@ use multi_cycle_list::inner::inner_open;
 use multi_cycle_list::inner::inner_remove;
 use multi_cycle_list::whole::whole;
 ghost use mathlib.Core.Path.{_≡_};
+ghost use Prim.Native.Nat.{_<_};
 ghost use lib.ListN.{length};
 ghost use Rattle.state.specs.Result.{answer};
+ghost use Rattle.multi_class_queue.specs.Inner.{refusal};
 ghost use Rattle.multi_class_queue.specs.Calls.{on, bytes, opening, front, back, isEmpty, isFront, isBack, remove, moveFront, moveBack, ListsMean};
 
 pub fn open(s: &mut [u8], classes: u32, entries: u32) -> Answer
@@ -32,14 +34,26 @@ pub fn open(s: &mut [u8], classes: u32, entries: u32) -> Answer
     Answer::Done
 }
 
+// 1 where the bytes are not whole, 13 where `x` is past the size in byte `at`, else 0.
+fn refusal(s: &[u8], at: usize, x: u32) -> u8
+    requires { ⌜ at < 2 ⌝ }
+    ensures { λ r. ⌜ r ≡ refusal (now (s .entry)) at x ⌝ }
+{
+    if whole(s) {} else {
+        return 1;
+    }
+    if s[at] as u32 <= x {
+        return 13;
+    }
+    0
+}
+
 pub fn front(s: &[u8], class: u32) -> Answer
     ensures { λ r. ⌜ r ≡ answer (on (front class) (now (s .entry))) ⌝ }
 {
-    if whole(s) {} else {
-        return Answer::Refused(1);
-    }
-    if s[0] as u32 <= class {
-        return Answer::Refused(13);
+    let n = refusal(s, 0, class);
+    if n != 0 {
+        return Answer::Refused(n);
     }
     inner_front(s, class as usize)
 }
@@ -47,11 +61,9 @@ pub fn front(s: &[u8], class: u32) -> Answer
 pub fn back(s: &[u8], class: u32) -> Answer
     ensures { λ r. ⌜ r ≡ answer (on (back class) (now (s .entry))) ⌝ }
 {
-    if whole(s) {} else {
-        return Answer::Refused(1);
-    }
-    if s[0] as u32 <= class {
-        return Answer::Refused(13);
+    let n = refusal(s, 0, class);
+    if n != 0 {
+        return Answer::Refused(n);
     }
     inner_back(s, class as usize)
 }
@@ -59,11 +71,9 @@ pub fn back(s: &[u8], class: u32) -> Answer
 pub fn is_empty(s: &[u8], class: u32) -> Answer
     ensures { λ r. ⌜ r ≡ answer (on (isEmpty class) (now (s .entry))) ⌝ }
 {
-    if whole(s) {} else {
-        return Answer::Refused(1);
-    }
-    if s[0] as u32 <= class {
-        return Answer::Refused(13);
+    let n = refusal(s, 0, class);
+    if n != 0 {
+        return Answer::Refused(n);
     }
     Answer::Holds(s[2 + 2 * (class as usize)] < s[0])
 }
@@ -71,16 +81,14 @@ pub fn is_empty(s: &[u8], class: u32) -> Answer
 pub fn is_front(s: &[u8], entry: u32) -> Answer
     ensures { λ r. ⌜ r ≡ answer (on (isFront entry) (now (s .entry))) ⌝ }
 {
-    if whole(s) {} else {
-        return Answer::Refused(1);
-    }
-    if s[1] as u32 <= entry {
-        return Answer::Refused(13);
+    let n = refusal(s, 1, entry);
+    if n != 0 {
+        return Answer::Refused(n);
     }
     let c = s[0];
-    let n = s[3 + 2 * ((c as usize) + (entry as usize))];
-    if n < c {
-        return Answer::Is(n);
+    let prev = s[3 + 2 * ((c as usize) + (entry as usize))];
+    if prev < c {
+        return Answer::Is(prev);
     }
     Answer::Nothing
 }
@@ -88,16 +96,14 @@ pub fn is_front(s: &[u8], entry: u32) -> Answer
 pub fn is_back(s: &[u8], entry: u32) -> Answer
     ensures { λ r. ⌜ r ≡ answer (on (isBack entry) (now (s .entry))) ⌝ }
 {
-    if whole(s) {} else {
-        return Answer::Refused(1);
-    }
-    if s[1] as u32 <= entry {
-        return Answer::Refused(13);
+    let n = refusal(s, 1, entry);
+    if n != 0 {
+        return Answer::Refused(n);
     }
     let c = s[0];
-    let n = s[2 + 2 * ((c as usize) + (entry as usize))];
-    if n < c {
-        return Answer::Is(n);
+    let next = s[2 + 2 * ((c as usize) + (entry as usize))];
+    if next < c {
+        return Answer::Is(next);
     }
     Answer::Nothing
 }
@@ -105,11 +111,9 @@ pub fn is_back(s: &[u8], entry: u32) -> Answer
 pub fn remove(s: &mut [u8], entry: u32) -> Answer
     ensures { λ r. ⌜ (r ≡ answer (on (remove entry) (now (s .entry)))) × (now (s .exit) ≡ bytes (now (s .entry)) (on (remove entry) (now (s .entry)))) ⌝ }
 {
-    if whole(s) {} else {
-        return Answer::Refused(1);
-    }
-    if s[1] as u32 <= entry {
-        return Answer::Refused(13);
+    let n = refusal(s, 1, entry);
+    if n != 0 {
+        return Answer::Refused(n);
     }
     inner_remove(s, entry as usize);
     Answer::Done
@@ -118,11 +122,9 @@ pub fn remove(s: &mut [u8], entry: u32) -> Answer
 pub fn move_front(s: &mut [u8], class: u32, entry: u32) -> Answer
     ensures { λ r. ⌜ (r ≡ answer (on (moveFront class entry) (now (s .entry)))) × (now (s .exit) ≡ bytes (now (s .entry)) (on (moveFront class entry) (now (s .entry)))) ⌝ }
 {
-    if whole(s) {} else {
-        return Answer::Refused(1);
-    }
-    if s[0] as u32 <= class {
-        return Answer::Refused(13);
+    let n = refusal(s, 0, class);
+    if n != 0 {
+        return Answer::Refused(n);
     }
     if s[1] as u32 <= entry {
         return Answer::Refused(13);
@@ -134,11 +136,9 @@ pub fn move_front(s: &mut [u8], class: u32, entry: u32) -> Answer
 pub fn move_back(s: &mut [u8], class: u32, entry: u32) -> Answer
     ensures { λ r. ⌜ (r ≡ answer (on (moveBack class entry) (now (s .entry)))) × (now (s .exit) ≡ bytes (now (s .entry)) (on (moveBack class entry) (now (s .entry)))) ⌝ }
 {
-    if whole(s) {} else {
-        return Answer::Refused(1);
-    }
-    if s[0] as u32 <= class {
-        return Answer::Refused(13);
+    let n = refusal(s, 0, class);
+    if n != 0 {
+        return Answer::Refused(n);
     }
     if s[1] as u32 <= entry {
         return Answer::Refused(13);

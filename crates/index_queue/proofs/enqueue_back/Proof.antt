@@ -27,7 +27,7 @@ enum-known-p : tie.Need-enum-known-p
 enum-known-p c = search needs
 
 queue-back-requires : tie.Need-queue-back-requires
-queue-back-requires c κs = ((sym (c .before .before .before .before .before .before .before .whole .ensures) ∙ c .before .before .before .before .before .before .if1 .taken), (entry-in (c .before .before .before .before .before .before .before .before .before .before .args .s .now) (sym (c .before .before .before .before .before .before .before .whole .ensures) ∙ c .before .before .before .before .before .before .if1 .taken) (c .before .before .before .before .before .before .before .before .before .before .args .key) (c .before .before .p .given .0 .0) (located (read (c .before .before .before .before .before .before .before .before .before .before .args .s .now)) (c .before .before .before .before .before .before .before .before .before .before .args .key) (c .before .before .p .given .0 .0) (sym (c .before .before .before .before .get-index .ensures) ∙ c .before .before .p .given .1)), not-free (c .before .before .before .before .before .before .before .before .before .before .args .s .now) (sym (c .before .before .before .before .before .before .before .whole .ensures) ∙ c .before .before .before .before .before .before .if1 .taken) (c .before .before .before .before .before .before .before .before .before .before .args .key) (c .before .before .p .given .0 .0) (located (read (c .before .before .before .before .before .before .before .before .before .before .args .s .now)) (c .before .before .before .before .before .before .before .before .before .before .args .key) (c .before .before .p .given .0 .0) (sym (c .before .before .before .before .get-index .ensures) ∙ c .before .before .p .given .1))))
+queue-back-requires c κs = ((sym (c .before .before .before .before .before .before .before .whole .ensures) ∙ c .before .before .before .before .before .before .if1 .taken), (omega (arith, entry-in (c .before .before .before .before .before .before .before .before .before .before .args .s .now) (sym (c .before .before .before .before .before .before .before .whole .ensures) ∙ c .before .before .before .before .before .before .if1 .taken) (c .before .before .before .before .before .before .before .before .before .before .args .key) (c .before .before .p .given .0 .0) (located (read (c .before .before .before .before .before .before .before .before .before .before .args .s .now)) (c .before .before .before .before .before .before .before .before .before .before .args .key) (c .before .before .p .given .0 .0) (sym (c .before .before .before .before .get-index .ensures) ∙ c .before .before .p .given .1))), not-free (c .before .before .before .before .before .before .before .before .before .before .args .s .now) (sym (c .before .before .before .before .before .before .before .whole .ensures) ∙ c .before .before .before .before .before .before .if1 .taken) (c .before .before .before .before .before .before .before .before .before .before .args .key) (c .before .before .p .given .0 .0) (located (read (c .before .before .before .before .before .before .before .before .before .before .args .s .now)) (c .before .before .before .before .before .before .before .before .before .before .args .key) (c .before .before .p .given .0 .0) (sym (c .before .before .before .before .get-index .ensures) ∙ c .before .before .p .given .1))))
 
 enum-told : tie.Need-enum-told
 enum-told c = search needs

@@ -1,68 +1,54 @@
 use borrow.Author.Needs.{needs}
 use native.Mathlib.Omega.{arith}
-use Prim.Native.Nat.{ℕ, _+_, _*_}
-use mathlib.Core.Path.{_≡_, refl, sym, ap, _∙_}
-use borrow.Author.Tests.{lt-ltb, le-ltb}
-use Rattle.state.proofs.Tests.{byte-fits, byte-fits32}
-use Rattle.multi_class_queue.specs.Calls.{isBack}
+use mathlib.Core.Path.{sym, _∙_}
 use Rattle.multi_cycle_list.proofs.WholeTools.{whole-sizes}
-use Rattle.multi_class_queue.proofs.Calls.{unwhole, past, asked, tail-class, is-back-at, is-back-out}
+use Rattle.state.proofs.Tests.{byte-fits}
+use Rattle.multi_class_queue.specs.Calls.{isBack}
+use Rattle.multi_class_queue.proofs.Calls.{accepted, turned-away, asked, tail-in, tail-not, is-back-at, is-back-out}
 use Rattle.multi_class_queue.proofs.is_back.Statement.{statement}
 use Rattle.multi_class_queue.proofs.is_back.Tie as tie
 
-whole-requires : tie.Need-whole-requires
-whole-requires c κs = search needs
+refusal-requires : tie.Need-refusal-requires
+refusal-requires c κs = search needs
 
 returns : tie.Need-returns
-returns c = unwhole (isBack (c .before .before .before .args .entry)) (c .before .before .before .args .s .now) (sym (c .before .whole .ensures) ∙ c .if1 .left) .0
-
-shared-slice-read-if2 : tie.Need-shared-slice-read-if2
-shared-slice-read-if2 c = let z = whole-sizes (c .before .before .before .before .args .s .now) (sym (c .before .before .whole .ensures) ∙ c .before .if1 .taken) in omega arith
-
-cast-if2 : tie.Need-cast-if2
-cast-if2 c = byte-fits32 (c .shared-slice-known2 .given _)
-
-returns-2 : tie.Need-returns-2
-returns-2 c = past (c .before .before .before .before .before .args .s .now) (sym (c .before .before .before .whole .ensures) ∙ c .before .before .if1 .taken) (isBack (c .before .before .before .before .before .args .entry)) (is-back-out (c .before .before .before .before .before .args .s .now) (c .before .before .before .before .before .args .entry) (c .if2 .taken)) .0
+returns c = turned-away (c .before .before .before .args .s .now) 1 (c .before .before .before .args .entry) (isBack (c .before .before .before .args .entry)) (is-back-out (c .before .before .before .args .s .now) (c .before .before .before .args .entry)) _ (c .before .refusal .ensures) (c .if1 .taken) .0
 
 shared-slice-read-c : tie.Need-shared-slice-read-c
-shared-slice-read-c c = let z = whole-sizes (c .before .before .before .before .before .before .args .s .now) (sym (c .before .before .before .before .whole .ensures) ∙ c .before .before .before .if1 .taken) in omega arith
+shared-slice-read-c c = let a = (accepted (c .before .before .before .before .args .s .now) 1 (c .before .before .before .before .args .entry) _ (c .before .before .refusal .ensures) (c .before .if1 .left)) in let z = whole-sizes (c .before .before .before .before .args .s .now) (a .0) in omega (arith, a .1)
 
-cast-n : tie.Need-cast-n
-cast-n c = byte-fits (c .shared-slice-known3 .given _)
+cast-next : tie.Need-cast-next
+cast-next c = byte-fits (c .shared-slice-known2 .given _)
 
-add-n : tie.Need-add-n
-add-n c = let z = whole-sizes (c .before .before .before .before .before .before .args .s .now) (sym (c .before .before .before .before .whole .ensures) ∙ c .before .before .before .if1 .taken) in omega arith
+add-next : tie.Need-add-next
+add-next c = let a = (accepted (c .before .before .before .before .args .s .now) 1 (c .before .before .before .before .args .entry) _ (c .before .before .refusal .ensures) (c .before .if1 .left)) in let z = whole-sizes (c .before .before .before .before .args .s .now) (a .0) in omega (arith, a .1)
 
-mul-n : tie.Need-mul-n
-mul-n c = let z = whole-sizes (c .before .before .before .before .before .before .args .s .now) (sym (c .before .before .before .before .whole .ensures) ∙ c .before .before .before .if1 .taken) in omega arith
+mul-next : tie.Need-mul-next
+mul-next c = let a = (accepted (c .before .before .before .before .args .s .now) 1 (c .before .before .before .before .args .entry) _ (c .before .before .refusal .ensures) (c .before .if1 .left)) in let z = whole-sizes (c .before .before .before .before .args .s .now) (a .0) in omega (arith, a .1)
 
-add-n-2 : tie.Need-add-n-2
-add-n-2 c = let z = whole-sizes (c .before .before .before .before .before .before .args .s .now) (sym (c .before .before .before .before .whole .ensures) ∙ c .before .before .before .if1 .taken) in omega arith
+add-next-2 : tie.Need-add-next-2
+add-next-2 c = let a = (accepted (c .before .before .before .before .args .s .now) 1 (c .before .before .before .before .args .entry) _ (c .before .before .refusal .ensures) (c .before .if1 .left)) in let z = whole-sizes (c .before .before .before .before .args .s .now) (a .0) in omega (arith, a .1)
 
-shared-slice-read-n : tie.Need-shared-slice-read-n
-shared-slice-read-n c = let z = whole-sizes (c .before .before .before .before .before .before .before .args .s .now) (sym (c .before .before .before .before .before .whole .ensures) ∙ c .before .before .before .before .if1 .taken) in omega arith
+shared-slice-read-next : tie.Need-shared-slice-read-next
+shared-slice-read-next c = let a = (accepted (c .before .before .before .before .before .args .s .now) 1 (c .before .before .before .before .before .args .entry) _ (c .before .before .before .refusal .ensures) (c .before .before .if1 .left)) in let z = whole-sizes (c .before .before .before .before .before .args .s .now) (a .0) in omega (arith, a .1)
+
+returns-2 : tie.Need-returns-2
+returns-2 c = let a = (accepted (c .before .before .before .before .before .before .args .s .now) 1 (c .before .before .before .before .before .before .args .entry) _ (c .before .before .before .before .refusal .ensures) (c .before .before .before .if1 .left)) in tail-in (c .before .before .before .before .before .before .args .s .now) (c .before .before .before .before .before .before .args .entry) (a .0) (a .1) (c .if2 .taken) ∙ asked (c .before .before .before .before .before .before .args .s .now) (a .0) (isBack (c .before .before .before .before .before .before .args .entry)) _ (is-back-at (c .before .before .before .before .before .before .args .s .now) (c .before .before .before .before .before .before .args .entry) (a .1))
 
 returns-3 : tie.Need-returns-3
-returns-3 c = rw (lt-ltb _ _ (c .if3 .taken)) at (tail-class (c .before .before .before .before .before .before .before .before .args .s .now) (c .before .before .before .before .before .before .before .before .args .entry) (sym (c .before .before .before .before .before .before .whole .ensures) ∙ c .before .before .before .before .before .if1 .taken) (c .before .before .before .if2 .left)) ∙ asked (c .before .before .before .before .before .before .before .before .args .s .now) (sym (c .before .before .before .before .before .before .whole .ensures) ∙ c .before .before .before .before .before .if1 .taken) (isBack (c .before .before .before .before .before .before .before .before .args .entry)) _ (is-back-at (c .before .before .before .before .before .before .before .before .args .s .now) (c .before .before .before .before .before .before .before .before .args .entry) (c .before .before .before .if2 .left))
-
-returns-4 : tie.Need-returns-4
-returns-4 c = rw (le-ltb _ _ (c .if3 .left)) at (tail-class (c .before .before .before .before .before .before .before .before .args .s .now) (c .before .before .before .before .before .before .before .before .args .entry) (sym (c .before .before .before .before .before .before .whole .ensures) ∙ c .before .before .before .before .before .if1 .taken) (c .before .before .before .if2 .left)) ∙ asked (c .before .before .before .before .before .before .before .before .args .s .now) (sym (c .before .before .before .before .before .before .whole .ensures) ∙ c .before .before .before .before .before .if1 .taken) (isBack (c .before .before .before .before .before .before .before .before .args .entry)) _ (is-back-at (c .before .before .before .before .before .before .before .before .args .s .now) (c .before .before .before .before .before .before .before .before .args .entry) (c .before .before .before .if2 .left))
+returns-3 c = let a = (accepted (c .before .before .before .before .before .before .args .s .now) 1 (c .before .before .before .before .before .before .args .entry) _ (c .before .before .before .before .refusal .ensures) (c .before .before .before .if1 .left)) in tail-not (c .before .before .before .before .before .before .args .s .now) (c .before .before .before .before .before .before .args .entry) (a .0) (a .1) (c .if2 .left) ∙ asked (c .before .before .before .before .before .before .args .s .now) (a .0) (isBack (c .before .before .before .before .before .before .args .entry)) _ (is-back-at (c .before .before .before .before .before .before .args .s .now) (c .before .before .before .before .before .before .args .entry) (a .1))
 
 pub is-back-spec : {M : Type 1} → statement M
 is-back-spec =
     tie.close
     (tie.spec
-    whole-requires
+    refusal-requires
     returns
-    shared-slice-read-if2
-    cast-if2
-    returns-2
     shared-slice-read-c
-    cast-n
-    add-n
-    mul-n
-    add-n-2
-    shared-slice-read-n
-    returns-3
-    returns-4)
+    cast-next
+    add-next
+    mul-next
+    add-next-2
+    shared-slice-read-next
+    returns-2
+    returns-3)

@@ -119,12 +119,6 @@ module _ (m : Keys) (f : FairKeys m) (i : ℕ) (h : i < length (m .slots)) where
 -- ---- the bytes of a change
 
 module _ (s : List ℕ) (y : Bytes s) (f : Facts s) (i : ℕ) (x : Slot) (l : Lists) (k : Keeps (read s) i x l) where
-  m : Keys
-  m = read s
-
-  here : i < entries s
-  here = omega (arith, k .inside, slots-length s)
-
   fair′ : FairKeys (change i x l (read s))
   fair′ = change-fair (read s) i x l (read-fair s f y) k
 
@@ -239,9 +233,6 @@ module _ (s : List ℕ) (y : Bytes s) (h : wholeB s ≡ true) (i : ℕ) (hi : i 
   self = subst (λ (z : List ℕ). Has (entries s) (kMax s) s s z (keyWord (entries s) s) (value (entries s) s) (index (entries s) s)) (sym (mcl.laid-read (listPart s) (f .lists))) (self-has s f y)
 
   module _ (hw : keyWord (entries s) s i < 8192) where
-    word : ℕ
-    word = keyWord (entries s) s i
-
     holds-it : slot (read s) i ≡ holds (keyWord (entries s) s i) (value (entries s) s i)
     holds-it = slot-in s i hi ∙ rw (lt-ltb (keyWord (entries s) s i) 8192 hw)
 

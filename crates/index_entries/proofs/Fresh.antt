@@ -51,9 +51,6 @@ unfolding each
 each-snoc zero f = refl
 each-snoc {A} (suc n) f = ap (λ (l : List A). f 0 ∷ l) (each-snoc n (λ k. f (suc k)))
 
-upto : ℕ → List ℕ
-upto n = each n (λ i. i)
-
 upto-count : (n e : ℕ) → n ≤ e → count e (each n (λ i. i)) ≡ 0
 unfolding count each
 upto-count zero e h = refl

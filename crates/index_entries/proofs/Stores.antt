@@ -132,9 +132,6 @@ module _ (n k : ℕ) (s t l : List ℕ) (w v x : ℕ → ℕ) (h : Has n k s t l
 
 -- the list queue replaced by p
 module _ (n k : ℕ) (s t l : List ℕ) (w v x : ℕ → ℕ) (h : Has n k s t l w v x) (p : List ℕ) (long-p : length p ≡ 6 + 2 * n) where
-  lent : List ℕ
-  lent = take 2 t ++ (p ++ drop (6 + 2 * n) (drop 2 t))
-
   two : length (take 2 t) ≡ 2
   two = length-take-le 2 t (omega (arith, h .len))
 

@@ -66,6 +66,7 @@ pub fn contains(s: &[u8], key: u16) -> Answer
     }
 }
 
+// The papers leave open what is answered where the value was handed back: here, that there is none.
 pub fn get(s: &[u8], key: u16) -> Answer
     ensures { λ r. ⌜ r ≡ answer (on (get key) (now (s .entry))) ⌝ }
 {
@@ -86,7 +87,7 @@ pub fn get(s: &[u8], key: u16) -> Answer
     }
 }
 
-// Stores `value` where the key has one, and tells whether.
+// Stores `value` where the key has one, and tells whether. Open in the papers, as for `get`, where the value was handed back: nothing is stored.
 pub fn get_mut(s: &mut [u8], key: u16, value: u32) -> Answer
     ensures { λ r. ⌜ (r ≡ answer (on (getMut key value) (now (s .entry)))) × (now (s .exit) ≡ bytes (now (s .entry)) (on (getMut key value) (now (s .entry)))) ⌝ }
 {

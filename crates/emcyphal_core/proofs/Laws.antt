@@ -9,7 +9,8 @@ use lib.Bits.{bitAnd, bitOr, and-shr, or-shr, and-mod, or-mod, and-lt, or-lt}
 use lib.Count.{leadingZeros, trailingZeros, trailing-le}
 use borrow.Author.Tests.{leb-true, le-leb, lt-leb, lt-ltb, ne-eqb}
 use Rattle.emcyphal_core.specs.Priorities.{number, priorityOf, maybePriority, before}
-use Rattle.emcyphal_core.specs.Sets.{has, bits, setOf, without, every, isEmpty, firstIn, firstOf, lastOf, nextOf}
+use Rattle.state.specs.Seq.{allB}
+use Rattle.emcyphal_core.specs.Sets.{has, bits, setOf, without, isEmpty, firstIn, firstOf, lastOf, nextOf}
 use Rattle.emcyphal_core.specs.declared.Priority.{Priority}
 use Rattle.emcyphal_core.specs.declared.Priority.the-variants.{Exceptional, Immediate, Fast, High, Nominal, Low, Slow, Optional}
 use Rattle.emcyphal_core.specs.declared.MaybePriority.{MaybePriority}
@@ -139,7 +140,7 @@ unfolding bits
 others = agree 256 _ _ refl
 
 pub empty : (b : ℕ) → b < 256 → eqb b 0 ≡ isEmpty b
-unfolding every
+unfolding allB
 empty = agree 256 _ _ refl
 
 pub least : (b : ℕ) → b < 256 → maybePriority (trailingZeros 8 b) ≡ firstOf b

@@ -1,8 +1,9 @@
 -- A byte as a set of priorities: p is in the set if bit p is set.
 use mathlib.Core.List.{List, [], _∷_, reverse}
-use mathlib.Core.Bool.{Bool, true, not, _&&_, cond}
+use mathlib.Core.Bool.{Bool, not, _&&_, cond}
 use Prim.Native.Nat.{ℕ, zero, suc, _+_, _*_, _/_, _%_, _^_}
 use lib.Dec.{eqb}
+use Rattle.state.specs.Seq.{allB}
 use Rattle.emcyphal_core.specs.Priorities.{priorities, number}
 use Rattle.emcyphal_core.specs.declared.Priority.{Priority}
 use Rattle.emcyphal_core.specs.declared.MaybePriority.{MaybePriority}
@@ -27,14 +28,9 @@ setOf f = bits 8 f
 abbrev pub without : ℕ → ℕ → ℕ
 without b q = setOf (λ p. has b p && not (eqb p q))
 
--- f holds of each number below n
-unfoldable pub every : ℕ → (ℕ → Bool) → Bool
-every zero f = true
-every (suc n) f = f n && every n f
-
 -- no priority is in b
 abbrev pub isEmpty : ℕ → Bool
-isEmpty b = every 8 (λ p. not (has b p))
+isEmpty b = allB 8 (λ p. not (has b p))
 
 -- the first of a list that is in the set b
 unfoldable pub firstIn : ℕ → List Priority → MaybePriority

@@ -53,6 +53,17 @@ static bool accepts(call_function *call, const struct state *state, const uint32
     return gomxeli_number(call(LENT(&lent), n)) == GOMXELI_ACCEPTED;
 }
 
+void check_steps(const char *what, struct state *state, const struct step *steps)
+{
+    for (unsigned i = 0; steps[i].call != NULL; i++) {
+        const struct step *step = &steps[i];
+        gomxeli_answer answer = step->call(LENT(state), step->n);
+        bool holds = has_parts(answer, step->number, step->what, step->first, step->second);
+        if (!count_check(holds))
+            fprintf(stderr, "%s: step %u\n", what, i);
+    }
+}
+
 static void check_case(bool holds, const struct pair *pair, const char *how, const char *text)
 {
     if (!count_check(holds))
@@ -60,13 +71,13 @@ static void check_case(bool holds, const struct pair *pair, const char *how, con
 }
 
 void check_pair(const struct pair *pair, const char *how, const struct state *whole,
-                const struct state *broken, unsigned wins)
+                const struct state *broken, unsigned broken_number, unsigned wins)
 {
     check_case(accepts(pair->call, whole, pair->good), pair, how, "accepted where all is right");
     check_case(refuses(pair->call, whole, pair->bad, pair->bad_number), pair, how,
                "the numbers' refusal where they alone are wrong");
-    check_case(refuses(pair->call, broken, pair->good, GOMXELI_NOT_WHOLE), pair, how,
-               "1 where the bytes alone are wrong");
+    check_case(refuses(pair->call, broken, pair->good, broken_number), pair, how,
+               "the bytes' refusal where they alone are wrong");
     check_case(refuses(pair->call, broken, pair->bad, wins), pair, how,
                "the refusal that comes first where both are wrong");
 }
@@ -79,7 +90,7 @@ void check_pairs(const struct pair *pairs, const struct state *whole,
         for (const struct breaking *breaking = breakings; breaking->what != NULL; breaking++) {
             broken = *whole;
             breaking->apply(&broken);
-            check_pair(pairs, breaking->what, whole, &broken, GOMXELI_NOT_WHOLE);
+            check_pair(pairs, breaking->what, whole, &broken, GOMXELI_NOT_WHOLE, GOMXELI_NOT_WHOLE);
         }
     }
 }
@@ -102,6 +113,10 @@ void cut_all(struct state *state)
 int main(void)
 {
     test_leaves();
+    test_reg();
+    test_reg_whole();
+    test_img();
+    test_filter();
     test_mcq();
     test_iq();
     printf("c_test: %u checks, %u failed\n", checks, failed);

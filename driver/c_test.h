@@ -12,6 +12,10 @@
 #include "calls.h"
 
 void test_leaves(void);
+void test_reg(void);
+void test_reg_whole(void);
+void test_img(void);
+void test_filter(void);
 void test_mcq(void);
 void test_iq(void);
 
@@ -57,12 +61,30 @@ struct state {
 bool refuses(call_function *call, const struct state *state, const uint32_t *n, unsigned number);
 
 /* ------------------------------------------------------------------------ */
+/* Steps                                                                    */
+/* ------------------------------------------------------------------------ */
+
+/* A call and what it answers. */
+struct step {
+    call_function *call;
+    uint32_t n[MOST_NUMBERS];
+    unsigned number, what, first;
+    uint32_t second;
+};
+
+#define REFUSES(number) (number), 0, 0, 0
+
+/* Makes the calls, one after the other, on the state, up to a step without call. */
+void check_steps(const char *what, struct state *state, const struct step *steps);
+
+/* ------------------------------------------------------------------------ */
 /* Doubly wrong calls                                                       */
 /* ------------------------------------------------------------------------ */
 
 /*
  * A call for which two refusals can meet: the bytes are not whole (or, at opening,
- * the length is not that of the sizes), and its numbers are wrong for the bytes.
+ * the length is not that of the sizes, or no image's), and its numbers are wrong for
+ * the bytes.
  */
 struct pair {
     const char *what;
@@ -74,11 +96,12 @@ struct pair {
 
 /*
  * On the whole state the call is accepted, and with bad numbers refused for them;
- * on the broken one it is refused with 1; where both are wrong, the number that
- * wins is answered. `how` says how the state is broken.
+ * on the broken one it is refused with the bytes' number, 1 or an image's 4; where
+ * both are wrong, the number that wins is answered. `how` says how the state is
+ * broken.
  */
 void check_pair(const struct pair *pair, const char *how, const struct state *whole,
-                const struct state *broken, unsigned wins);
+                const struct state *broken, unsigned broken_number, unsigned wins);
 
 /* A way to make a whole state not whole. */
 struct breaking {

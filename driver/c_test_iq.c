@@ -436,7 +436,7 @@ static void test_open_pairs(void)
     right.len = GOMXELI_IQ_LENGTH(5, 4);
     wrong.len = right.len + 4;
     for (unsigned i = 0; i < sizeof open_pairs / sizeof open_pairs[0]; i++)
-        check_pair(&open_pairs[i], "wrong length", &right, &wrong, GOMXELI_SIZE);
+        check_pair(&open_pairs[i], "wrong length", &right, &wrong, GOMXELI_NOT_WHOLE, GOMXELI_SIZE);
 }
 
 /* The calls with no refusal but 1: no number is wrong for a whole state. */

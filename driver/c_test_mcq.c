@@ -268,7 +268,7 @@ static void test_open_pairs(void)
     right.len = GOMXELI_MCQ_LENGTH(2, 4);
     wrong.len = right.len + 1;
     for (unsigned i = 0; i < sizeof open_pairs / sizeof open_pairs[0]; i++)
-        check_pair(&open_pairs[i], "wrong length", &right, &wrong, GOMXELI_SIZE);
+        check_pair(&open_pairs[i], "wrong length", &right, &wrong, GOMXELI_NOT_WHOLE, GOMXELI_SIZE);
 }
 
 void test_mcq(void)

@@ -7,6 +7,18 @@
         return gomxeli_##name(__VA_ARGS__); \
     }
 
+CALL(reg_open, state, len, n[0])
+CALL(reg_register, state, len, n[0], n[1])
+CALL(reg_unregister, state, len, n[0])
+CALL(reg_poll_pop, state, len)
+CALL(reg_hub_push_start, state, len, n[0])
+CALL(reg_hub_push_next, state, len)
+
+CALL(img_open, state, len)
+CALL(img_add_subject, state, len, n[0])
+CALL(img_remove_subject_range, state, len, n[0], n[1])
+CALL(img_has_subject, state, len, n[0])
+
 CALL(mcq_open, state, len, n[0], n[1])
 CALL(mcq_front, state, len, n[0])
 CALL(mcq_back, state, len, n[0])

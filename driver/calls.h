@@ -1,7 +1,7 @@
 /*
- * The exported calls that have a state, all of one shape, for tables: the state
- * and the call's numbers in the header's order. Numbers that a call does not take
- * are not read.
+ * The exported calls that have a state or an image, all of one shape, for tables:
+ * the lent bytes and the call's numbers in the header's order. Numbers that a call
+ * does not take are not read.
  */
 #ifndef CALLS_H
 #define CALLS_H
@@ -15,6 +15,11 @@
 enum { MOST_NUMBERS = 2 };
 
 typedef gomxeli_answer call_function(uint8_t *state, size_t len, const uint32_t *n);
+
+call_function reg_open, reg_register, reg_unregister, reg_poll_pop, reg_hub_push_start,
+    reg_hub_push_next;
+
+call_function img_open, img_add_subject, img_remove_subject_range, img_has_subject;
 
 call_function mcq_open, mcq_front, mcq_back, mcq_is_empty, mcq_is_front, mcq_is_back, mcq_remove,
     mcq_move_front, mcq_move_back;

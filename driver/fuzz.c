@@ -21,7 +21,7 @@
 #include "lent.h"
 #include "random.h"
 
-static struct kind *const kinds[] = {&kind_mcq, &kind_iq};
+static struct kind *const kinds[] = {&kind_reg, &kind_img, &kind_mcq, &kind_iq};
 
 enum { KINDS = sizeof kinds / sizeof kinds[0] };
 
@@ -59,6 +59,13 @@ static void count_state(const struct kind *kind, enum origin origin, bool whole)
             met[k][origin][whole]++;
 }
 
+gomxeli_answer refuse_state(const struct call *call, const uint32_t *n)
+{
+    (void)call;
+    (void)n;
+    return refusal(GOMXELI_NOT_WHOLE);
+}
+
 /* What the call answers, by document 01; the state becomes what the call leaves. */
 static gomxeli_answer expect(struct kind *kind, const struct call *call, bool whole,
                              struct bytes *state, const uint32_t *n)
@@ -66,7 +73,7 @@ static gomxeli_answer expect(struct kind *kind, const struct call *call, bool wh
     if (call->model == NULL)
         return kind->open(state, n);
     if (!whole)
-        return refusal(GOMXELI_NOT_WHOLE);
+        return kind->refuse(call, n);
     kind->read(state->byte, kind->meaning);
     gomxeli_answer expected = call->model(kind->meaning, n);
     if (gomxeli_number(expected) == GOMXELI_ACCEPTED)
@@ -165,16 +172,17 @@ void resize(struct bytes *state, size_t len)
     state->len = len;
 }
 
-/* Lengths that the states of other kinds have, or will have, and an image's. */
+/* Lengths that the states of other kinds have or will have. */
 static size_t other_length(void)
 {
-    static const size_t lengths[] = {780, 389, 385, 805, 677, 1024};
+    static const size_t to_come[] = {389, 385, 805, 677};
+    enum { TO_COME = sizeof to_come / sizeof to_come[0] };
     uint32_t n[MOST_NUMBERS];
-    unsigned pick = below(6 + KINDS);
-    if (pick < 6)
-        return lengths[pick];
-    kinds[pick - 6]->draw_sizes(n);
-    return kinds[pick - 6]->length(n);
+    unsigned pick = below(TO_COME + KINDS);
+    if (pick < TO_COME)
+        return to_come[pick];
+    kinds[pick - TO_COME]->draw_sizes(n);
+    return kinds[pick - TO_COME]->length(n);
 }
 
 static void draw_random(struct kind *kind, struct bytes *state)
@@ -377,13 +385,23 @@ static void print_met(const struct kind *kind, uint64_t counts[ORIGINS][2])
     printf("\n");
 }
 
+/* A step of a model is rarer than an answer: a quarter of the least is enough. */
+static bool report_kind(const struct kind *kind)
+{
+    bool enough = true;
+    for (unsigned i = 0; i < kind->call_count; i++)
+        enough = report(&kind->calls[i].tally, options.least) && enough;
+    for (unsigned i = 0; i < kind->branch_count; i++)
+        enough = report_branch(&kind->branches[i], options.least / 4) && enough;
+    return enough;
+}
+
 static bool report_all(void)
 {
     bool enough = true;
-    printf("answers of each call: 0 accepted, 0+ accepted with what 1, else refused\n");
+    printf("answers of each call: 0 accepted, 0+ and 0++ with what 1 and 2, else refused\n");
     for (unsigned k = 0; k < KINDS; k++)
-        for (unsigned i = 0; i < kinds[k]->call_count; i++)
-            enough = report(&kinds[k]->calls[i].tally, options.least) && enough;
+        enough = report_kind(kinds[k]) && enough;
     enough = report_leaves(options.least) && enough;
     for (unsigned k = 0; k < KINDS; k++)
         print_met(kinds[k], met[k]);

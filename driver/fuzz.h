@@ -1,7 +1,8 @@
 /*
- * Damaged input: what the kinds of state share. A kind describes its calls, a
- * plain model of each, and how to draw states and numbers. fuzz.c draws, makes
- * the calls on lent buffers, and holds answers and bytes to the model.
+ * Damaged input: what the kinds of state share, the image among them. A kind
+ * describes its calls, a plain model of each, and how to draw states and numbers.
+ * fuzz.c draws, makes the calls on lent buffers, and holds answers and bytes to the
+ * model.
  *
  * A kind is a file fuzz_KIND.c with a `struct kind`, which fuzz.c lists.
  */
@@ -48,6 +49,9 @@ struct kind {
     /* Document 01's test, not the library's. */
     bool (*whole)(const uint8_t *state, size_t len);
 
+    /* What a call, but for the opening, answers on bytes that are not whole. */
+    gomxeli_answer (*refuse)(const struct call *call, const uint32_t *n);
+
     /* A meaning, read from whole bytes, and laid out over bytes of its length. */
     void *meaning;
     void (*read)(const uint8_t *state, void *meaning);
@@ -61,13 +65,22 @@ struct kind {
 
     /* Makes the calls that are tried in turn and not by chance. */
     void (*sweep)(void);
+
+    /* Steps of the model that must be met, or none. */
+    struct branch *branches;
+    unsigned branch_count;
 };
 
+extern struct kind kind_reg;
+extern struct kind kind_img;
 extern struct kind kind_mcq;
 extern struct kind kind_iq;
 
 /* Where a state came from. */
 enum origin { RANDOM, DAMAGED, RESIZED, LAID, RUN, SWEPT, ORIGINS };
+
+/* The `refuse` of all kinds of state: 1. */
+gomxeli_answer refuse_state(const struct call *call, const uint32_t *n);
 
 /*
  * Lends a copy of the state to a call and judges answer and bytes. The state

@@ -455,6 +455,7 @@ struct kind kind_iq = {
     .length = length,
     .open = open_plain,
     .whole = whole_iq,
+    .refuse = refuse_state,
     .meaning = &plain_keys,
     .read = read_keys,
     .lay = lay_keys,

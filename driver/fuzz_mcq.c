@@ -330,6 +330,7 @@ struct kind kind_mcq = {
     .length = length,
     .open = open_plain,
     .whole = whole_mcq,
+    .refuse = refuse_state,
     .meaning = &plain_lists,
     .read = read_lists,
     .lay = lay_lists,

@@ -22,6 +22,8 @@ struct kind {
 };
 
 static struct kind kinds[] = {
+    {"reg", reg_verbs, {NULL, 0}},
+    {"img", img_verbs, {NULL, 0}},
     {"mcq", mcq_verbs, {NULL, 0}},
     {"iq", iq_verbs, {NULL, 0}},
 };
@@ -49,11 +51,18 @@ static void set_length(struct state *state, size_t len)
 
 void open_state(struct state *state, size_t len, call_function *open, const uint32_t *n)
 {
-    if (len > 0) {
-        set_length(state, len);
-        memset(state->bytes, 0xa5, len);
+    struct state opened = {NULL, 0};
+    set_length(&opened, len);
+    if (len > 0)
+        memset(opened.bytes, 0xa5, len);
+    gomxeli_answer answer = open(opened.bytes, opened.len, n);
+    print_done(answer);
+    if (gomxeli_number(answer) != GOMXELI_ACCEPTED) {
+        free(opened.bytes);
+        return;
     }
-    print_done(open(state->bytes, state->len, n));
+    free(state->bytes);
+    *state = opened;
 }
 
 /* ------------------------------------------------------------------------ */
@@ -109,6 +118,12 @@ void print_list(const uint8_t *numbers, unsigned count)
         printf("-");
     for (unsigned i = 0; i < count; i++)
         printf("%s%u", i == 0 ? "" : ",", (unsigned)numbers[i]);
+}
+
+void print_entries(const char *name, const struct list *list)
+{
+    printf(" %s=", name);
+    print_list(list->entry, list->count);
 }
 
 /* ------------------------------------------------------------------------ */

@@ -13,8 +13,9 @@
 #include <stdint.h>
 
 #include "calls.h"
+#include "state_mcq.h"
 
-/* The bytes lent to a kind's calls; none before its first opening. */
+/* The bytes lent to a kind's calls, an image's too; none before its first opening. */
 struct state {
     uint8_t *bytes;
     size_t len;
@@ -36,13 +37,15 @@ struct verb {
 #define ANY_NUMBER UINT32_MAX
 
 /* The tables, each ended by a verb with no word. */
+extern const struct verb reg_verbs[];
+extern const struct verb img_verbs[];
 extern const struct verb mcq_verbs[];
 extern const struct verb iq_verbs[];
 extern const struct verb frame_verbs[];
 
 /*
- * Opens a state of the length that the sizes have, or, where that is 0 because
- * they are not allowed, tries to open the present one.
+ * Opens a new state of the length that the sizes have, 0 where they are not allowed.
+ * Where the opening is accepted it takes the place of the present one.
  */
 void open_state(struct state *state, size_t len, call_function *open, const uint32_t *n);
 
@@ -57,5 +60,8 @@ void print_second(gomxeli_answer answer);
 
 /* Prints numbers parted by commas, or - if there are none. */
 void print_list(const uint8_t *numbers, unsigned count);
+
+/* Prints a blank, the name, = and the entries of a list. */
+void print_entries(const char *name, const struct list *list);
 
 #endif

@@ -29,12 +29,6 @@ static void print_keys(const struct keys *keys)
         printf("-");
 }
 
-static void print_entries(const char *name, const struct list *list)
-{
-    printf(" %s=", name);
-    print_list(list->entry, list->count);
-}
-
 /* The call refuses only what is not whole. */
 static void run_read_back(struct state *state, const uint32_t *n)
 {

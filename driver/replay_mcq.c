@@ -2,7 +2,6 @@
 #include <stdio.h>
 
 #include "replay.h"
-#include "state_mcq.h"
 
 static void run_open(struct state *state, const uint32_t *n)
 {

@@ -1,5 +1,7 @@
 #include "state_iq.h"
 
+#include "state_number.h"
+
 /*
  * Bytes 0 and 1 K_MAX, then a list queue of 2 classes and N entries, N key words,
  * N values, K_MAX + 1 index bytes, 0 to 3 bytes more.
@@ -26,22 +28,6 @@ static size_t index_at(unsigned entries, unsigned key)
     return LISTS_END + 8 * (size_t)entries + key;
 }
 
-static uint32_t read_number(const uint8_t *bytes, unsigned width)
-{
-    uint32_t value = 0;
-    for (unsigned i = width; i-- > 0;)
-        value = value * 256 + bytes[i];
-    return value;
-}
-
-static void write_number(uint8_t *bytes, unsigned width, uint32_t value)
-{
-    for (unsigned i = 0; i < width; i++) {
-        bytes[i] = (uint8_t)(value % 256);
-        value /= 256;
-    }
-}
-
 void keys_clear(struct keys *keys, unsigned k_max, unsigned entries)
 {
     keys->k_max = k_max;
@@ -55,19 +41,19 @@ void keys_clear(struct keys *keys, unsigned k_max, unsigned entries)
 
 static struct keyed keyed_read(const uint8_t *bytes, unsigned entries, unsigned entry)
 {
-    unsigned word = read_number(bytes + word_at(entries, entry), 2);
+    unsigned word = number_read(bytes + word_at(entries, entry), 2);
     struct keyed keyed = {
         .has_key = word < NO_KEY,
         .spent = SPENT <= word && word < NO_KEY,
         .key = (uint16_t)(word % SPENT),
-        .value = read_number(bytes + value_at(entries, entry), 4),
+        .value = number_read(bytes + value_at(entries, entry), 4),
     };
     return keyed;
 }
 
 void keys_read(const uint8_t *bytes, struct keys *keys)
 {
-    keys->k_max = read_number(bytes, 2);
+    keys->k_max = number_read(bytes, 2);
     lists_read(bytes + LISTS_AT, &keys->lists);
     keys->entries = keys->lists.entries;
     for (unsigned i = 0; i < keys->entries; i++)
@@ -77,11 +63,11 @@ void keys_read(const uint8_t *bytes, struct keys *keys)
 static void lay_keyed(const struct keyed *keyed, uint8_t *word, uint8_t *value)
 {
     if (keyed->has_key)
-        write_number(word, 2, keyed->key + (keyed->spent ? SPENT : 0u));
-    else if (read_number(word, 2) < NO_KEY)
-        write_number(word, 2, NO_KEY_WRITTEN);
+        number_lay(word, 2, keyed->key + (keyed->spent ? SPENT : 0u));
+    else if (number_read(word, 2) < NO_KEY)
+        number_lay(word, 2, NO_KEY_WRITTEN);
     if (keyed->has_key && !keyed->spent)
-        write_number(value, 4, keyed->value);
+        number_lay(value, 4, keyed->value);
 }
 
 static void lay_index(const struct keys *keys, uint8_t *index)
@@ -103,7 +89,7 @@ static void lay_index(const struct keys *keys, uint8_t *index)
 void keys_lay(const struct keys *keys, uint8_t *bytes)
 {
     unsigned n = keys->entries;
-    write_number(bytes, 2, keys->k_max);
+    number_lay(bytes, 2, keys->k_max);
     lists_lay(&keys->lists, bytes + LISTS_AT);
     for (unsigned i = 0; i < n; i++)
         lay_keyed(&keys->entry[i], bytes + word_at(n, i), bytes + value_at(n, i));

@@ -12,8 +12,8 @@ static unsigned outcome_of(gomxeli_answer answer)
     unsigned number = gomxeli_number(answer);
     unsigned what = gomxeli_what(answer);
     if (number == 0)
-        return what <= 1 ? what : OUTCOMES;
-    return number <= LAST_NUMBER ? number + 1 : OUTCOMES;
+        return what <= LAST_WHAT ? what : OUTCOMES;
+    return number <= LAST_NUMBER ? number + LAST_WHAT : OUTCOMES;
 }
 
 bool judge(struct tally *tally, gomxeli_answer got, gomxeli_answer expected, bool bytes_hold)
@@ -31,10 +31,19 @@ bool judge(struct tally *tally, gomxeli_answer got, gomxeli_answer expected, boo
 
 static void print_count(unsigned outcome, uint64_t count)
 {
-    if (outcome <= 1)
-        printf("  0%s: %" PRIu64, outcome == 1 ? "+" : "", count);
+    static const char *const accepted[LAST_WHAT + 1] = {"0", "0+", "0++"};
+    if (outcome <= LAST_WHAT)
+        printf("  %s: %" PRIu64, accepted[outcome], count);
     else
-        printf("  %u: %" PRIu64, outcome - 1, count);
+        printf("  %u: %" PRIu64, outcome - LAST_WHAT, count);
+}
+
+/* Says where a count is less than the least. */
+static bool is_enough(uint64_t count, uint64_t least)
+{
+    if (count < least)
+        printf(" (less than %" PRIu64 ")", least);
+    return count >= least;
 }
 
 bool report(const struct tally *tally, uint64_t least)
@@ -45,11 +54,16 @@ bool report(const struct tally *tally, uint64_t least)
         if ((tally->outcomes >> i & 1) == 0)
             continue;
         print_count(i, tally->count[i]);
-        if (tally->count[i] < least) {
-            printf(" (less than %" PRIu64 ")", least);
-            enough = false;
-        }
+        enough = is_enough(tally->count[i], least) && enough;
     }
+    printf("\n");
+    return enough;
+}
+
+bool report_branch(const struct branch *branch, uint64_t least)
+{
+    printf("  %s: %" PRIu64, branch->name, branch->count);
+    bool enough = is_enough(branch->count, least);
     printf("\n");
     return enough;
 }

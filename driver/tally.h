@@ -8,14 +8,15 @@
 #include "gomxeli.h"
 
 /*
- * What a call can answer, as a set: accepted with what 0, accepted with what 1,
- * refused with a number.
+ * What a call can answer, as a set: accepted with what 0, 1 or 2, refused with a
+ * number.
  */
 #define PLAIN 1u
 #define SOME 2u
-#define REFUSED(number) (2u << (number))
+#define OTHER 4u
+#define REFUSED(number) (4u << (number))
 
-enum { LAST_NUMBER = 17, OUTCOMES = LAST_NUMBER + 2 };
+enum { LAST_WHAT = 2, LAST_NUMBER = 17, OUTCOMES = LAST_WHAT + LAST_NUMBER + 1 };
 
 struct tally {
     const char *name;
@@ -31,6 +32,14 @@ bool judge(struct tally *tally, gomxeli_answer got, gomxeli_answer expected, boo
  * least number of times, which is printed too.
  */
 bool report(const struct tally *tally, uint64_t least);
+
+/* A step that a model takes, counted by the model, and reported like an outcome. */
+struct branch {
+    const char *name;
+    uint64_t count;
+};
+
+bool report_branch(const struct branch *branch, uint64_t least);
 
 uint64_t calls_made(void);
 uint64_t failures_met(void);

@@ -11,6 +11,10 @@
 
 bool whole_mcq(const uint8_t *state, size_t len);
 bool whole_iq(const uint8_t *state, size_t len);
+bool whole_reg(const uint8_t *state, size_t len);
+
+/* Whether bytes are a filter image. */
+bool whole_img(const uint8_t *image, size_t len);
 
 /*
  * "Every cycle closes both ways and holds just one class or is a lone unbound

@@ -1,6 +1,7 @@
 /*
  * gomxeli.h: registries and queues for a Cyphal/CAN node, over lent bytes. So far
- * the lists, the key queues, the identifiers, sets of priorities and the tail byte.
+ * regular message reception, the filter image, the lists, the key queues, the
+ * identifiers, sets of priorities and the tail byte.
  *
  * The functions are written and proved in Rattle. `rt staticlib gomxeli` puts
  * them into target/staticlib/libgomxeli.a; a program includes this header and
@@ -31,7 +32,8 @@
  * length.
  *
  * The pointer must be valid for the length given with it. It may be NULL where
- * the length is 0.
+ * the length is 0. A filter image is lent in the same way; any bytes of its length
+ * are one.
  *
  * ANSWERS AND REFUSALS
  *
@@ -101,23 +103,174 @@ static inline unsigned gomxeli_number(gomxeli_answer answer)
     return (unsigned)(answer & 0xffu);
 }
 
-/* A flag, or whether there is a value. */
+/* A flag, whether there is a value, or which update. */
 static inline unsigned gomxeli_what(gomxeli_answer answer)
 {
     return (unsigned)((answer >> 8) & 0xffu);
 }
 
-/* An entry, a class, a key, an identifier, a set. */
+/* An entry, a class, a key, an identifier, a set, a range's first. */
 static inline uint16_t gomxeli_first(gomxeli_answer answer)
 {
     return (uint16_t)((answer >> 16) & 0xffffu);
 }
 
-/* A value. */
+/* A value, a range's last, whether more follow. */
 static inline uint32_t gomxeli_second(gomxeli_answer answer)
 {
     return (uint32_t)(answer >> 32);
 }
+
+/* ------------------------------------------------------------------------ */
+/* Regular message reception: RegularInner                                  */
+/* ------------------------------------------------------------------------ */
+
+/*
+ * Endpoints that hear messages. An entry is a number from 0 to 127 that the caller
+ * chooses; registered, it has one subject, and several entries may have the same.
+ * An entry on a subject that the bus filter does not pass yet waits; polls hand
+ * out the filter's updates and make the waiting entries active. Frames are for the
+ * active entries of their subject, which a walk names one by one, in the order in
+ * which they became active.
+ *
+ *     static uint8_t reg[GOMXELI_REG_LENGTH], filter[GOMXELI_IMG_LENGTH];
+ *
+ *     gomxeli_reg_open(reg, sizeof reg, 4);
+ *     gomxeli_img_open(filter, sizeof filter);
+ *     gomxeli_reg_register(reg, sizeof reg, 0, 100);
+ *
+ *     // after a wake: all updates, into the filter
+ *     for (;;) {
+ *         gomxeli_answer a = gomxeli_reg_poll_pop(reg, sizeof reg);
+ *         if (gomxeli_what(a) == 1)
+ *             gomxeli_img_add_subject(filter, sizeof filter, gomxeli_first(a));
+ *         else if (gomxeli_what(a) == 2)
+ *             gomxeli_img_remove_subject_range(filter, sizeof filter, gomxeli_first(a),
+ *                                              gomxeli_second(a));
+ *         else
+ *             break;
+ *     }
+ *
+ *     // a frame on a subject: to each of its entries
+ *     gomxeli_answer a = gomxeli_reg_hub_push_start(reg, sizeof reg, 100);
+ *     for (bool more = gomxeli_what(a) == 1; more; more = gomxeli_second(a) == 1) {
+ *         a = gomxeli_reg_hub_push_next(reg, sizeof reg);
+ *         deliver(gomxeli_first(a));           // entry 0
+ *     }
+ */
+#define GOMXELI_REG_ENTRY_MAX 127
+#define GOMXELI_REG_SLOTS_MAX 65535
+
+/* The length of a state. */
+#define GOMXELI_REG_LENGTH ((size_t)1036)
+
+/*
+ * Opens a state: no entries, no walk, and the slot counter at the given number.
+ * Writes every byte and looks at none.
+ *
+ * GOMXELI_NOT_WHOLE  len is not GOMXELI_REG_LENGTH
+ * GOMXELI_RANGE      slots above 65,535
+ */
+gomxeli_answer gomxeli_reg_open(uint8_t *state, size_t len, uint32_t slots);
+
+/*
+ * Registers an entry on a subject. Where others wait on the subject, it waits behind
+ * them; else, where others are active on it, it is active at once; else it takes a
+ * slot and waits.
+ * what 1: wake the task that polls. what 0: no need.
+ *
+ * GOMXELI_NOT_WHOLE
+ * GOMXELI_ENTRY_RANGE      entry above 127
+ * GOMXELI_RANGE            subject above 8,191
+ * GOMXELI_REGISTERED       the entry is registered already
+ * GOMXELI_NO_SUBJECT_SLOT  no entry has the subject, and the slot counter is 0
+ */
+gomxeli_answer gomxeli_reg_register(uint8_t *state, size_t len, uint32_t entry, uint32_t subject);
+
+/*
+ * Removes an entry. A walk that points at it moves on to the next entry of the
+ * subject, or ends. Where the last active entry of a subject leaves, the subject
+ * is due to be removed from the filter.
+ * what 1: wake the task that polls. what 0: no need.
+ *
+ * GOMXELI_NOT_WHOLE
+ * GOMXELI_ENTRY_RANGE     entry above 127
+ * GOMXELI_NOT_REGISTERED  the entry is not registered
+ * GOMXELI_SLOTS_FULL      the removal would give back a slot, and the slot counter
+ *                         is 65,535; the entry stays registered
+ */
+gomxeli_answer gomxeli_reg_unregister(uint8_t *state, size_t len, uint32_t entry);
+
+/*
+ * The next update of the filter. Removals come before additions.
+ * what 1: add the subject first. what 2: remove the subjects from first to second,
+ * both included. what 0: nothing; no entry waits, and with all updates put into it
+ * the filter passes just the subjects that have an entry.
+ *
+ * GOMXELI_NOT_WHOLE
+ */
+gomxeli_answer gomxeli_reg_poll_pop(uint8_t *state, size_t len);
+
+/*
+ * Points the walk at the first active entry of a subject, or ends it.
+ * what 1: an entry is pointed at. what 0: the subject has no active entry.
+ *
+ * GOMXELI_NOT_WHOLE
+ * GOMXELI_RANGE      subject above 8,191
+ */
+gomxeli_answer gomxeli_reg_hub_push_start(uint8_t *state, size_t len, uint32_t subject);
+
+/*
+ * Names the entry that the walk points at, and moves on to the next of its subject.
+ * what 1: first is the entry, second is 1 if more follow, 0 if not. what 0: the
+ * walk points at none.
+ *
+ * GOMXELI_NOT_WHOLE
+ */
+gomxeli_answer gomxeli_reg_hub_push_next(uint8_t *state, size_t len);
+
+/* ------------------------------------------------------------------------ */
+/* The filter image                                                         */
+/* ------------------------------------------------------------------------ */
+
+/*
+ * A set of subjects as 1,024 bytes: subject s is in the set where bit s mod 8 of
+ * byte s div 8 is 1. Any bytes of this length are an image.
+ */
+#define GOMXELI_IMG_LENGTH ((size_t)1024)
+
+/*
+ * Opens an image: no subject is in it.
+ *
+ * GOMXELI_BAD_IMAGE  len is not GOMXELI_IMG_LENGTH
+ */
+gomxeli_answer gomxeli_img_open(uint8_t *image, size_t len);
+
+/*
+ * Puts a subject into the image.
+ *
+ * GOMXELI_RANGE      subject above 8,191
+ * GOMXELI_BAD_IMAGE  len is not GOMXELI_IMG_LENGTH
+ */
+gomxeli_answer gomxeli_img_add_subject(uint8_t *image, size_t len, uint32_t subject);
+
+/*
+ * Takes the subjects from first to last out of the image, both included.
+ *
+ * GOMXELI_RANGE      first or last above 8,191, or first above last
+ * GOMXELI_BAD_IMAGE  len is not GOMXELI_IMG_LENGTH
+ */
+gomxeli_answer gomxeli_img_remove_subject_range(uint8_t *image, size_t len, uint32_t first,
+                                                uint32_t last);
+
+/*
+ * Whether a subject is in the image.
+ * what 1: yes. what 0: no.
+ *
+ * GOMXELI_RANGE      subject above 8,191
+ * GOMXELI_BAD_IMAGE  len is not GOMXELI_IMG_LENGTH
+ */
+gomxeli_answer gomxeli_img_has_subject(const uint8_t *image, size_t len, uint32_t subject);
 
 /* ------------------------------------------------------------------------ */
 /* Lists: MultiClassQueue                                                   */

@@ -36,12 +36,17 @@ impl Answer {
     pub fn number(self) -> u8 {
         self.0 as u8
     }
+
+    /// What, first and second.
+    pub fn fields(self) -> (u8, u16, u32) {
+        let Self(bits) = self;
+        ((bits >> 8) as u8, (bits >> 16) as u16, (bits >> 32) as u32)
+    }
 }
 
 impl fmt::Display for Answer {
     fn fmt(&self, f: &mut fmt::Formatter) -> fmt::Result {
-        let Answer(bits) = *self;
-        let (what, first, second) = (bits >> 8 & 0xff, bits >> 16 & 0xffff, bits >> 32);
+        let (what, first, second) = self.fields();
         write!(
             f,
             "number {} what {what} first {first} second {second}",
@@ -131,6 +136,7 @@ exports! {
         iq_get(key: u16);
         iq_front();
         iq_back();
+        img_has_subject(subject: u32);
     }
     write {
         mcq_open(classes: u32, entries: u32);
@@ -144,5 +150,14 @@ exports! {
         iq_enqueue_front(key: u16);
         iq_enqueue_back(key: u16);
         iq_dequeue(key: u16);
+        reg_open(slots: u32);
+        reg_register(entry: u32, subject: u32);
+        reg_unregister(entry: u32);
+        reg_poll_pop();
+        reg_hub_push_start(subject: u32);
+        reg_hub_push_next();
+        img_open();
+        img_add_subject(subject: u32);
+        img_remove_subject_range(first: u32, last: u32);
     }
 }

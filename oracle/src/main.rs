@@ -1,12 +1,19 @@
 //! Compares the exports of libgomxeli.a with the unchanged Rust, in one process.
 
+mod bounds;
+mod cases;
+mod demand;
 mod exports;
+mod image;
 mod keys;
 mod leaves;
 mod lists;
 mod pair;
 mod panics;
 mod record;
+mod regular;
+mod regular_bytes;
+mod regular_draw;
 mod rng;
 mod runs;
 mod tally;
@@ -21,13 +28,13 @@ use tally::Tally;
 
 const USAGE: &str = "\
 compare [--seed N] [--calls N | --seconds N] [--kinds K,..]
-    compares; K is leaves, vectors, panics, mcq, iq (default: all); N random calls in all
-    (default 600000), or as many as fit in N seconds, besides what is done over all inputs
+    compares; K is leaves, vectors, cases, panics, mcq, iq, reg, img (default: all); N random calls
+    in all (default 1300000), or as many as fit in N seconds, besides what is done over all inputs
 compare --panics        shows each sequence in which the Rust panics and ours does not
 compare --record DIR    writes DIR/stdin and DIR/stdout: calls, and the Rust's answers
 exit 0: no difference; 1: a difference, after the shortened calls that show it; 2: bad usage";
 
-const CALLS: u64 = 600_000;
+const CALLS: u64 = 1_300_000;
 
 /// How much is run at random.
 enum Amount {
@@ -90,10 +97,20 @@ const KINDS: &[Kind] = &[
         sizes: keys::sizes,
         small: keys::small,
     },
+    Kind {
+        name: "reg",
+        sizes: regular::sizes,
+        small: regular::small,
+    },
+    Kind {
+        name: "img",
+        sizes: image::sizes,
+        small: image::small,
+    },
 ];
 
-/// What is compared without a state, before the kinds.
-const STATELESS: [&str; 3] = ["leaves", "vectors", "panics"];
+/// What is compared before the kinds: without a state, or in written sequences.
+const STATELESS: [&str; 4] = ["leaves", "vectors", "cases", "panics"];
 
 fn kind_names() -> impl Iterator<Item = &'static str> {
     STATELESS
@@ -138,6 +155,9 @@ fn compare(options: &Options, tally: &mut Tally) -> Result<(), String> {
     }
     if options.has("vectors") {
         vectors::run(tally)?;
+    }
+    if options.has("cases") {
+        cases::run(tally)?;
     }
     if options.has("panics") {
         panics::run(false, tally)?;

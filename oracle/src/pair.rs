@@ -14,6 +14,8 @@ pub enum Role {
     Read,
     Grow,
     Shrink,
+    Poll,
+    Walk,
 }
 
 /// A call of one kind. `code` is its number in the recorded list.
@@ -66,6 +68,7 @@ impl fmt::Display for Call {
 }
 
 /// Bytes lent to the exports, between margins that nobody may touch.
+#[derive(Clone)]
 pub struct Lent(Vec<u8>);
 
 impl Lent {
@@ -141,6 +144,47 @@ pub trait Pair {
             Some(answer) => Expected::Unasked(answer),
             None => Expected::Asked(self.put(call)),
         }
+    }
+
+    /// The state read back in words; it follows from equal bytes if layout and reader are right.
+    fn read_back(&self) -> Result<(), String> {
+        let (ours, rust) = (self.our_state(), self.rust_state());
+        if ours == rust {
+            return Ok(());
+        }
+        Err(format!(
+            "state read back\nours:     {ours}\nthe Rust: {rust}"
+        ))
+    }
+
+    /// What must hold besides, after a call that both sides answered alike.
+    fn beside(&mut self, _call: Call, _answer: Answer) -> Result<(), String> {
+        Ok(())
+    }
+
+    /// Both sides once more, ours in other bytes of the same meaning, where the Rust's can be copied.
+    fn copied(&self, _soil: u64) -> Option<Box<dyn Pair>> {
+        None
+    }
+
+    /// Calls that are made on a copy, to show more of this state.
+    fn trial(&self) -> Vec<Call> {
+        Vec::new()
+    }
+
+    /// Calls on other bytes that follow from an answer, with what they answer: for the recorded list.
+    fn follow_ups(&mut self, _call: Call, _answer: Answer) -> Vec<(Call, Answer)> {
+        Vec::new()
+    }
+
+    /// What tells this state from others.
+    fn told_by(&self) -> Vec<u8> {
+        self.lent().to_vec()
+    }
+
+    /// Whether exploring goes on from this state.
+    fn is_followed(&self) -> bool {
+        true
     }
 }
 

@@ -1,10 +1,12 @@
-//! The shortest sequences in which the Rust panics where document 01 refuses or leaves the answer open,
-//! and sizes that 01 does not allow. They are put to the Rust here alone, each in a queue of its own.
+//! The shortest sequences in which the Rust panics or goes on where document 01 refuses or leaves the
+//! answer open, and sizes that 01 does not allow. They are put to the Rust here alone, each in a state
+//! of its own.
 
 use crate::exports::{self, Answer};
 use crate::pair::{Call, Lent, Size};
 use crate::tally::{Expected, Tally};
-use crate::{keys, lists};
+use crate::{keys, lists, regular, regular_bytes};
+use emcyphal::registry::probe::Regular;
 use emcyphal::utils::IndexQueue;
 use emcyphal::utils::probe::MultiClassQueue;
 use std::cell::Cell;
@@ -34,10 +36,12 @@ pub fn caught<T>(f: impl FnOnce() -> T) -> Option<T> {
 
 struct Case {
     size: Size,
-    /// After the opening; the Rust panics on the last one.
+    /// After the opening.
     calls: Vec<Call>,
+    /// Whether the Rust panics on the last one, or goes on.
+    panics: bool,
     ours: Answer,
-    /// What the panic leaves of the Rust's state, where that is not what was there before.
+    /// What the last one leaves of the Rust's state, where that is not what was there before.
     leaves: Option<&'static str>,
 }
 
@@ -55,6 +59,7 @@ fn list_cases() -> Vec<Case> {
         .map(|call| Case {
             size: size::<1, 1>(0),
             calls: vec![call],
+            panics: true,
             ours: Answer::refused(13),
             leaves: None,
         })
@@ -76,6 +81,7 @@ fn key_cases() -> Vec<Case> {
         Case {
             size: size::<3, 2>(0),
             calls,
+            panics: true,
             ours,
             leaves,
         }
@@ -83,30 +89,81 @@ fn key_cases() -> Vec<Case> {
     last.into_iter().map(case).collect()
 }
 
+/// An entry registered again: in the Rust, the same place in memory. And a counter past 65,535.
+fn registry_cases() -> Vec<Case> {
+    use regular::*;
+    let (first, second) = (call(REGISTER, &[0, 0]), call(REGISTER, &[1, 0]));
+    let poll = call(POLL_POP, &[]);
+    let remove = |entry| call(UNREGISTER, &[entry]);
+    let headless = "slots=0 last_gap=false walk=None \
+        active=[0:0:A..] inactive=[] activation=[] clean_up=[]";
+    let passed = "slots=65536 last_gap=true walk=None \
+        active=[] inactive=[] activation=[] clean_up=[]";
+    let to_the_top = [first, second, poll, remove(0), poll, poll, remove(1)];
+    let again = |calls, leaves| Case {
+        size: size::<1, 3, THREE>(0),
+        calls,
+        panics: true,
+        ours: Answer::refused(5),
+        leaves,
+    };
+    vec![
+        again(vec![first, first], None),
+        again(vec![first, poll, first], Some(headless)),
+        Case {
+            size: size::<65_535, 3, THREE>(0),
+            calls: to_the_top.to_vec(),
+            panics: false,
+            ours: Answer::refused(9),
+            leaves: Some(passed),
+        },
+    ]
+}
+
 /// A size that document 01 does not allow. The Rust's `_ASSERT` constants are never evaluated: 256
 /// nodes are its only limit, found by `new`.
 struct SizeCase {
     opening: Call,
+    length: usize,
     open: fn(&mut [u8], u32, u32) -> Answer,
     rust: fn(),
     panics: bool,
+    number: u8,
 }
+
+/// Any length does for lists and keys: a size not allowed is refused before it.
+const ANY_LENGTH: usize = 600;
 
 fn list_size<const C: usize, const E: usize>(panics: bool) -> SizeCase {
     SizeCase {
         opening: lists::call(lists::OPEN, &[C as u32, E as u32]),
+        length: ANY_LENGTH,
         open: exports::mcq_open,
         rust: || _ = MultiClassQueue::<C, E>::new(),
         panics,
+        number: 13,
     }
 }
 
 fn key_size<const K_MAX: usize, const N: usize>(panics: bool) -> SizeCase {
     SizeCase {
         opening: keys::call(keys::OPEN, &[K_MAX as u32, N as u32]),
+        length: ANY_LENGTH,
         open: exports::iq_open,
         rust: || _ = IndexQueue::<u16, u32, K_MAX, N>::new(),
         panics,
+        number: 13,
+    }
+}
+
+fn slots_past_the_end() -> SizeCase {
+    SizeCase {
+        opening: regular::call(regular::OPEN, &[regular::MOST_SLOTS + 1]),
+        length: regular_bytes::LENGTH,
+        open: |bytes, slots, _| exports::reg_open(bytes, slots),
+        rust: || _ = Regular::new(regular::MOST_SLOTS as usize + 1),
+        panics: false,
+        number: 3,
     }
 }
 
@@ -121,6 +178,7 @@ fn size_cases() -> Vec<SizeCase> {
         key_size::<0, 223>(false),
         key_size::<0, 254>(false),
         key_size::<0, 255>(true),
+        slots_past_the_end(),
     ]
 }
 
@@ -132,23 +190,28 @@ pub fn run(print: bool, tally: &mut Tally) -> Result<(), String> {
             println!("{shown}");
         }
     };
-    for case in list_cases().into_iter().chain(key_cases()) {
+    let cases = [list_cases(), key_cases(), registry_cases()];
+    for case in cases.into_iter().flatten() {
         told(show(&case)?, case.calls[case.calls.len() - 1], case.ours);
     }
     for case in size_cases() {
-        told(show_size(&case)?, case.opening, Answer::refused(13));
+        told(
+            show_size(&case)?,
+            case.opening,
+            Answer::refused(case.number),
+        );
     }
     Ok(())
 }
 
 fn show_size(case: &SizeCase) -> Result<String, String> {
     let [a, b, _] = case.opening.args;
-    let mut lent = Lent::new(600, 0);
+    let mut lent = Lent::new(case.length, 0);
     let ours = (case.open)(&mut lent, a, b);
-    if ours != Answer::refused(13) || lent[..] != Lent::new(600, 0)[..] {
+    if ours != Answer::refused(case.number) || lent[..] != Lent::new(case.length, 0)[..] {
         return Err(format!(
-            "{}: ours {ours}, expected 13, and no byte changed",
-            case.opening
+            "{}: ours {ours}, expected {}, and no byte changed",
+            case.opening, case.number
         ));
     }
     if caught(case.rust).is_none() != case.panics {
@@ -176,14 +239,14 @@ fn show(case: &Case) -> Result<String, String> {
         .collect();
     let sequence = sequence.join("; ");
     let (before, lent) = (pair.rust_state(), pair.lent().to_vec());
-    if caught(|| pair.put(last)).is_some() {
-        return Err(format!("{sequence}: the Rust does not panic"));
+    if caught(|| pair.put(last)).is_none() != case.panics {
+        return Err(format!("{sequence}: the Rust panics: {}", !case.panics));
     }
     let after = pair.rust_state();
     let expected = case.leaves.unwrap_or(&before);
     if after != expected {
         return Err(format!(
-            "{sequence}: the Rust's state after its panic is {after}, expected {expected}"
+            "{sequence}: the Rust's state is then {after}, expected {expected}"
         ));
     }
     let ours = pair.make(last);
@@ -193,8 +256,9 @@ fn show(case: &Case) -> Result<String, String> {
             case.ours
         ));
     }
+    let rust = if case.panics { "panics" } else { "goes on" };
     Ok(format!(
-        "{sequence}: the Rust panics, then {}; ours {ours}",
+        "{sequence}: the Rust {rust}, then {}; ours {ours}",
         describe(&before, &after)
     ))
 }

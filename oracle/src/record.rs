@@ -4,8 +4,9 @@
 use crate::exports::Answer;
 use crate::pair::{Call, Pair, Role, Size};
 use crate::rng::Rng;
+use crate::runs::Mood;
 use crate::tally::Expected;
-use crate::{keys, leaves, lists, runs};
+use crate::{keys, leaves, lists, regular, runs};
 use std::path::Path;
 use std::{fs, io};
 
@@ -16,7 +17,7 @@ const SWEEP: usize = 26;
 const FEW: usize = 4;
 
 /// Changing calls at most: more growing than shrinking, no reading.
-const MOOD: [u64; 3] = [0, 4, 2];
+const MOOD: Mood = [0, 4, 2, 3, 4];
 
 /// Sizes, how often each is opened, and how many changing calls follow.
 fn plan() -> Vec<(Size, usize, usize)> {
@@ -31,6 +32,13 @@ fn plan() -> Vec<(Size, usize, usize)> {
         (keys::size::<7, 3>(0), 3, 14),
         (keys::size::<300, 222>(0), 1, 80),
         (keys::size::<8191, 16>(0), 2, 40),
+        (regular::size::<1, 3, { regular::THREE }>(0), 2, 60),
+        (regular::size::<3, 3, { regular::THREE }>(0), 3, 120),
+        (regular::size::<4, 8, { regular::ENDS }>(0), 2, 150),
+        (regular::size::<8, 16, { regular::NEAR }>(0), 1, 200),
+        (regular::size::<40, 128, { regular::SOME }>(0), 1, 250),
+        (regular::size::<200, 128, { regular::ALL }>(0), 1, 250),
+        (regular::size::<65_535, 3, { regular::THREE }>(0), 1, 120),
     ]
 }
 
@@ -53,6 +61,9 @@ impl Lines {
     fn ask(&mut self, pair: &mut dyn Pair, call: Call) {
         if let Expected::Asked(answer) = pair.ask(call) {
             self.add(call, answer);
+            for (call, answer) in pair.follow_ups(call, answer) {
+                self.add(call, answer);
+            }
         }
     }
 }

@@ -1,6 +1,7 @@
 //! Drives pairs: random sequences, all sequences of small sizes, and the shortening of a sequence
 //! that shows a difference.
 
+use crate::exports::Answer;
 use crate::pair::{Call, Op, Pair, Role, Size};
 use crate::panics::caught;
 use crate::rng::Rng;
@@ -30,8 +31,8 @@ impl fmt::Display for Difference {
     }
 }
 
-/// Makes one call on both sides and compares answers and bytes.
-fn step(pair: &mut dyn Pair, call: Call, tally: &mut Tally) -> Result<(), String> {
+/// Makes one call on both sides and compares answers and bytes; what both answer.
+pub fn step(pair: &mut dyn Pair, call: Call, tally: &mut Tally) -> Result<Answer, String> {
     let before = pair.lent().to_vec();
     let expected = caught(|| pair.ask(call)).ok_or("the Rust panicked")?;
     let ours = pair.make(call);
@@ -50,8 +51,9 @@ fn step(pair: &mut dyn Pair, call: Call, tally: &mut Tally) -> Result<(), String
         ));
     }
     compare_bytes(pair, &laid)?;
+    pair.beside(call, ours)?;
     tally.agreed(call.op.kind, call.op.name, expected);
-    Ok(())
+    Ok(ours)
 }
 
 fn compare_bytes(pair: &dyn Pair, laid: &[u8]) -> Result<(), String> {
@@ -75,15 +77,16 @@ fn compare_bytes(pair: &dyn Pair, laid: &[u8]) -> Result<(), String> {
     }
 }
 
-/// The state read back in words; it follows from equal bytes if layout and reader are right.
-fn compare_words(pair: &dyn Pair) -> Result<(), String> {
-    let (ours, rust) = (pair.our_state(), pair.rust_state());
-    if ours == rust {
+/// Looks at the state more closely: read back, and by the trial calls on a copy.
+fn look(pair: &dyn Pair, soil: u64, tally: &mut Tally) -> Result<(), String> {
+    pair.read_back()?;
+    let Some(mut copy) = pair.copied(soil) else {
         return Ok(());
+    };
+    for call in pair.trial() {
+        step(&mut *copy, call, tally).map_err(|text| format!("on a copy, at {call}: {text}"))?;
     }
-    Err(format!(
-        "state in words\nours:     {ours}\nthe Rust: {rust}"
-    ))
+    Ok(())
 }
 
 /// Makes the calls on a fresh pair: the pair, or how many calls it took to the difference and what it is.
@@ -97,7 +100,7 @@ fn replay(
     for (i, &call) in calls.iter().enumerate() {
         step(&mut *pair, call, tally).map_err(|text| (i + 1, text))?;
     }
-    compare_words(&*pair).map_err(|text| (calls.len(), text))?;
+    look(&*pair, soil, tally).map_err(|text| (calls.len(), text))?;
     Ok(pair)
 }
 
@@ -126,15 +129,28 @@ fn shorten(size: &Size, soil: u64, mut calls: Vec<Call>, mut text: String) -> Di
     }
 }
 
-/// Weights of reading, growing and shrinking calls; one of these holds for a whole sequence.
-const MOODS: [[u64; 3]; 4] = [[4, 4, 2], [2, 8, 1], [2, 3, 6], [9, 3, 1]];
+/// Weights of reading, growing, shrinking, polling and walking calls.
+pub type Mood = [u64; 5];
 
-fn draw_op(ops: &'static [Op], mood: [u64; 3], rng: &mut Rng) -> &'static Op {
+/// One of these holds for a whole sequence.
+const MOODS: [Mood; 7] = [
+    [4, 4, 2, 3, 2],
+    [2, 8, 1, 1, 1],
+    [2, 3, 6, 2, 1],
+    [9, 3, 1, 2, 6],
+    [1, 5, 5, 2, 2],
+    [2, 4, 4, 6, 4],
+    [1, 4, 4, 16, 1],
+];
+
+fn draw_op(ops: &'static [Op], mood: Mood, rng: &mut Rng) -> &'static Op {
     let weight = |role| match role {
         Role::Open => 0,
         Role::Read => mood[0],
         Role::Grow => mood[1],
         Role::Shrink => mood[2],
+        Role::Poll => mood[3],
+        Role::Walk => mood[4],
     };
     let mut left = rng.below(ops.iter().map(|op| weight(op.role)).sum());
     for op in ops {
@@ -147,7 +163,7 @@ fn draw_op(ops: &'static [Op], mood: [u64; 3], rng: &mut Rng) -> &'static Op {
 }
 
 /// A call at random: now and then the opening, mostly what the mood asks for.
-pub fn draw(pair: &dyn Pair, mood: [u64; 3], rng: &mut Rng) -> Call {
+pub fn draw(pair: &dyn Pair, mood: Mood, rng: &mut Rng) -> Call {
     let op = if rng.one_in(100) {
         pair.opening().op
     } else {
@@ -156,27 +172,49 @@ pub fn draw(pair: &dyn Pair, mood: [u64; 3], rng: &mut Rng) -> Call {
     pair.draw(op, rng)
 }
 
-pub fn draw_mood(rng: &mut Rng) -> [u64; 3] {
+pub fn draw_mood(rng: &mut Rng) -> Mood {
     rng.pick(&MOODS)
 }
+
+/// A sequence is looked at more closely after so many calls, and at its end.
+const LOOK: usize = 50;
 
 /// One random sequence; how many calls it had.
 fn sequence(size: &Size, rng: &mut Rng, most: u64, tally: &mut Tally) -> Result<u64, Difference> {
     let soil = rng.next();
     let length = 1 + rng.below(most);
     let mood = draw_mood(rng);
+    let next = |pair: &dyn Pair, made: usize| match made {
+        0 => Some(pair.opening()),
+        _ => ((made as u64) < length).then(|| draw(pair, mood, rng)),
+    };
+    run(size, soil, next, tally)
+}
+
+/// A given sequence.
+pub fn written(size: &Size, calls: Vec<Call>, tally: &mut Tally) -> Result<u64, Difference> {
+    run(size, 0, |_, made| calls.get(made).copied(), tally)
+}
+
+/// Calls one after another, each found from the pair and how many were made; how many these are.
+fn run(
+    size: &Size,
+    soil: u64,
+    mut next: impl FnMut(&dyn Pair, usize) -> Option<Call>,
+    tally: &mut Tally,
+) -> Result<u64, Difference> {
     let mut pair = (size.open)(soil);
-    let mut calls = vec![pair.opening()];
-    let mut result = step(&mut *pair, calls[0], tally);
-    while result.is_ok() && (calls.len() as u64) < length {
-        let call = draw(&*pair, mood, rng);
+    let mut calls = Vec::new();
+    while let Some(call) = next(&*pair, calls.len()) {
         calls.push(call);
-        result = step(&mut *pair, call, tally);
+        let mut result = step(&mut *pair, call, tally).map(drop);
+        if result.is_ok() && calls.len().is_multiple_of(LOOK) {
+            result = look(&*pair, soil, tally);
+        }
+        result.map_err(|text| shorten(size, soil, calls.clone(), text))?;
     }
-    match result.and_then(|()| compare_words(&*pair)) {
-        Ok(()) => Ok(calls.len() as u64),
-        Err(text) => Err(shorten(size, soil, calls, text)),
-    }
+    look(&*pair, soil, tally).map_err(|text| shorten(size, soil, calls.clone(), text))?;
+    Ok(calls.len() as u64)
 }
 
 /// Random sequences at one size, `calls` calls in all or a few more.
@@ -190,7 +228,7 @@ pub fn random(size: &Size, calls: u64, rng: &mut Rng, tally: &mut Tally) -> Resu
     Ok(())
 }
 
-/// Every call from every state that calls reach from the opening. States are told by their bytes.
+/// Every call from every state that is reached from the opening and followed.
 pub fn explore(size: &Size, tally: &mut Tally) -> Result<(), Difference> {
     let opening = (size.open)(0).opening();
     let every_call = (size.open)(0).every_call();
@@ -198,22 +236,28 @@ pub fn explore(size: &Size, tally: &mut Tally) -> Result<(), Difference> {
     let mut paths = VecDeque::from([vec![opening]]);
     while let Some(path) = paths.pop_front() {
         let mut pair = reach(size, &path)?;
-        let state = pair.lent().to_vec();
+        let state = pair.told_by();
         if !seen.insert(state.clone()) {
             continue;
         }
         for &call in &every_call {
             let mut longer = path.clone();
             longer.push(call);
+            let copy = pair.copied(seen.len() as u64);
             step(&mut *pair, call, tally)
-                .and_then(|()| compare_words(&*pair))
+                .and_then(|_| pair.read_back())
                 .map_err(|text| shorten(size, 0, longer.clone(), text))?;
-            if pair.lent()[..] != state[..] {
-                if !seen.contains(&pair.lent()[..]) {
-                    paths.push_back(longer);
-                }
-                pair = reach(size, &path)?;
+            let told_by = pair.told_by();
+            if told_by == state {
+                continue;
             }
+            if pair.is_followed() && !seen.contains(&told_by) {
+                paths.push_back(longer);
+            }
+            pair = match copy {
+                Some(copy) => copy,
+                None => reach(size, &path)?,
+            };
         }
     }
     tally.explored(format!(

@@ -18,8 +18,12 @@ use Rattle.emcyphal_core.specs.declared.MaybeTransferId as transfer
 use Rattle.emcyphal_core.specs.declared.MaybeTransferId.the-variants as transfer-says
 use Rattle.format.specs.declared.MaybeEot as eot
 use Rattle.format.specs.declared.MaybeEot.the-variants as eot-says
-use Rattle.multi_cycle_list.specs.declared.inner.Answer as list
-use Rattle.multi_cycle_list.specs.declared.inner.Answer.the-variants as list-says
+use Rattle.multi_class_queue.specs.declared.Answer as list
+use Rattle.multi_class_queue.specs.declared.Answer.the-variants as list-says
+use Rattle.regular.specs.declared.Answer as regular
+use Rattle.regular.specs.declared.Answer.the-variants as regular-says
+use Rattle.filter_image.specs.declared.Answer as image
+use Rattle.filter_image.specs.declared.Answer.the-variants as image-says
 use Rattle.index_queue.specs.declared.Answer as key
 use Rattle.index_queue.specs.declared.Answer.the-variants as key-says
 
@@ -46,6 +50,24 @@ keyAnswer key-says.Nothing = packed 0 0 0 0
 keyAnswer (key-says.Key k) = packed 0 1 k 0
 keyAnswer (key-says.Value v) = packed 0 1 0 v
 keyAnswer (key-says.Holds b) = packed 0 (flag b) 0 0
+
+-- the regular registry's answer: what 1 is a wake, an entry pointed at or named, or an added subject; what 2 is a removed range
+abbrev pub regularAnswer : regular.Answer → ℕ
+regularAnswer (regular-says.Refused n) = packed n 0 0 0
+regularAnswer regular-says.Done = packed 0 0 0 0
+regularAnswer (regular-says.Accepted b) = packed 0 (flag b) 0 0
+regularAnswer (regular-says.AddSubject x) = packed 0 1 x 0
+regularAnswer (regular-says.RemoveSubjectRange a b) = packed 0 2 a b
+regularAnswer regular-says.Nothing = packed 0 0 0 0
+regularAnswer (regular-says.Started b) = packed 0 (flag b) 0 0
+regularAnswer (regular-says.Pushed e more) = packed 0 1 e (flag more)
+regularAnswer regular-says.NotPushed = packed 0 0 0 0
+
+-- the filter image's answer
+abbrev pub imageAnswer : image.Answer → ℕ
+imageAnswer (image-says.Refused n) = packed n 0 0 0
+imageAnswer image-says.Done = packed 0 0 0 0
+imageAnswer (image-says.Holds b) = packed 0 (flag b) 0 0
 
 -- what may be missing: what 1 and the value first, or what 0
 abbrev pub priorityAnswer : priority.MaybePriority → ℕ

@@ -6,7 +6,9 @@ use Rattle.state.specs.Result as state
 use Rattle.state.specs.Result.{Result}
 use Rattle.multi_class_queue.specs.Calls as mcq
 use Rattle.index_queue.specs.Calls as iq
-use Rattle.gomxeli.specs.Answers.{listAnswer, keyAnswer}
+use Rattle.regular.specs.Steps as steps
+use Rattle.regular.specs.Calls as regular
+use Rattle.gomxeli.specs.Answers.{listAnswer, keyAnswer, regularAnswer}
 
 pub record Outcome : Type 0 where
   pub answer : ℕ
@@ -26,6 +28,9 @@ pub data Call : Type 0 where
   IqFront IqBack : Call
   IqContains IqGet IqRemove IqEnqueueFront IqEnqueueBack IqDequeue : ℕ → Call
   IqOpen IqGetMut IqInsert : ℕ → ℕ → Call
+  RegOpen RegUnregister RegHubPushStart : ℕ → Call
+  RegRegister : ℕ → ℕ → Call
+  RegPollPop RegHubPushNext : Call
 
 -- each as its own contract has it
 abbrev pub does : Call → List ℕ → Outcome
@@ -49,6 +54,12 @@ does IqBack b = asks keyAnswer b (iq.on iq.back b)
 does (IqEnqueueFront k) b = changes keyAnswer iq.bytes b (iq.on (iq.enqueueFront k) b)
 does (IqEnqueueBack k) b = changes keyAnswer iq.bytes b (iq.on (iq.enqueueBack k) b)
 does (IqDequeue k) b = changes keyAnswer iq.bytes b (iq.on (iq.dequeue k) b)
+does (RegOpen n) b = changes regularAnswer regular.openedBytes b (regular.opening (length b) n)
+does (RegRegister e x) b = changes regularAnswer regular.bytes b (regular.on (steps.register e x) b)
+does (RegUnregister e) b = changes regularAnswer regular.bytes b (regular.on (steps.unregister e) b)
+does RegPollPop b = changes regularAnswer regular.bytes b (regular.on steps.pollPop b)
+does (RegHubPushStart x) b = changes regularAnswer regular.bytes b (regular.on (steps.hubPushStart x) b)
+does RegHubPushNext b = changes regularAnswer regular.bytes b (regular.on steps.hubPushNext b)
 
 -- the answers of calls one after the other, and the bytes that they leave
 unfoldable pub run : List Call → List ℕ → List ℕ

@@ -1,6 +1,6 @@
 // Answers as one number each, laid out as specs/Answers.antt has it.
 ghost use mathlib.Core.Path.{_≡_};
-ghost use Rattle.gomxeli.specs.Answers.{packed, flag, listAnswer, keyAnswer, priorityAnswer, subjectAnswer, serviceAnswer, nodeAnswer, transferAnswer, eotAnswer};
+ghost use Rattle.gomxeli.specs.Answers.{packed, flag, listAnswer, keyAnswer, regularAnswer, imageAnswer, priorityAnswer, subjectAnswer, serviceAnswer, nodeAnswer, transferAnswer, eotAnswer};
 use emcyphal_core::MaybeNodeId;
 use emcyphal_core::MaybePriority;
 use emcyphal_core::MaybeServiceId;
@@ -33,15 +33,15 @@ pub fn set_answer(s: PrioritySet) -> u64
     byte_answer(s.into_bits())
 }
 
-pub fn list_answer(a: multi_cycle_list::inner::Answer) -> u64
+pub fn list_answer(a: multi_class_queue::Answer) -> u64
     ensures { λ r. ⌜ r ≡ listAnswer a ⌝ }
 {
     match a {
-        multi_cycle_list::inner::Answer::Refused(n) => pack(n, 0, 0, 0),
-        multi_cycle_list::inner::Answer::Done => pack(0, 0, 0, 0),
-        multi_cycle_list::inner::Answer::Is(x) => pack(0, 1, x as u16, 0),
-        multi_cycle_list::inner::Answer::Nothing => pack(0, 0, 0, 0),
-        multi_cycle_list::inner::Answer::Holds(b) => holds(b),
+        multi_class_queue::Answer::Refused(n) => pack(n, 0, 0, 0),
+        multi_class_queue::Answer::Done => pack(0, 0, 0, 0),
+        multi_class_queue::Answer::Is(x) => pack(0, 1, x as u16, 0),
+        multi_class_queue::Answer::Nothing => pack(0, 0, 0, 0),
+        multi_class_queue::Answer::Holds(b) => holds(b),
     }
 }
 
@@ -56,6 +56,32 @@ pub fn key_answer(a: index_queue::Answer) -> u64
         index_queue::Answer::Key(k) => pack(0, 1, k, 0),
         index_queue::Answer::Value(v) => pack(0, 1, 0, v),
         index_queue::Answer::Holds(b) => holds(b),
+    }
+}
+
+pub fn regular_answer(a: regular::Answer) -> u64
+    ensures { λ r. ⌜ r ≡ regularAnswer a ⌝ }
+{
+    match a {
+        regular::Answer::Refused(n) => pack(n, 0, 0, 0),
+        regular::Answer::Done => pack(0, 0, 0, 0),
+        regular::Answer::Accepted(b) => holds(b),
+        regular::Answer::AddSubject(x) => pack(0, 1, x, 0),
+        regular::Answer::RemoveSubjectRange(x, y) => pack(0, 2, x, y as u32),
+        regular::Answer::Nothing => pack(0, 0, 0, 0),
+        regular::Answer::Started(b) => holds(b),
+        regular::Answer::Pushed(e, more) => pack(0, 1, e as u16, more as u32),
+        regular::Answer::NotPushed => pack(0, 0, 0, 0),
+    }
+}
+
+pub fn image_answer(a: filter_image::Answer) -> u64
+    ensures { λ r. ⌜ r ≡ imageAnswer a ⌝ }
+{
+    match a {
+        filter_image::Answer::Refused(n) => pack(n, 0, 0, 0),
+        filter_image::Answer::Done => pack(0, 0, 0, 0),
+        filter_image::Answer::Holds(b) => holds(b),
     }
 }
 

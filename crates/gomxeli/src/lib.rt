@@ -1,5 +1,7 @@
 // The functions exported to C, include/gomxeli.h: each calls a proved function and packs its answer into one number.
 pub mod answer;
+pub mod img;
 pub mod iq;
 pub mod leaves;
 pub mod mcq;
+pub mod reg;

@@ -32,18 +32,6 @@ use Rattle.index_entries.proofs.Stores.{has-list}
 use Rattle.index_entries.proofs.LaidFields.{laid-has-at}
 use Rattle.index_entries.proofs.Facts.{keys-allowed}
 
--- ---- a filled slice
-
-pub filled-more : (s : List ℕ) (i v : ℕ) → i < length s → ((k : ℕ) → k < i → getD s k 0 ≡ v) → (k : ℕ) → k < i + 1 → getD (set s i v) k 0 ≡ v
-filled-more s i v h f k l =
-    elim (ℕ-discrete k i) [
-      | yes q ↦ ap (λ (z : ℕ). getD (set s i v) z 0) q ∙ getD-set-same s i v 0 h
-      | no q ↦ getD-set-other s i k v 0 q ∙ f k (omega arith)
-    ]
-
-pub filled-all : (s : List ℕ) (n v : ℕ) → length s ≡ n → ((k : ℕ) → k < length s → getD s k 0 ≡ v) → s ≡ replicate n v
-filled-all s n v q f = ext-getD 0 s (replicate n v) (q ∙ sym (length-replicate {A = ℕ} n v)) (λ k l. f k l ∙ sym (getD-replicate {A = ℕ} n k v 0 (omega arith)))
-
 -- ---- the first numbers, in order
 
 each-snoc : {A : Type 0} (n : ℕ) (f : ℕ → A) → each (suc n) f ≡ each n f ++ (f n ∷ [])

@@ -3,6 +3,7 @@ use multi_cycle_list::inner::inner_move_back;
 use multi_cycle_list::inner::inner_move_front;
 use multi_cycle_list::inner::inner_open;
 use multi_cycle_list::inner::inner_remove;
+use state::fill;
 ghost use mathlib.Core.Path.{_≡_};
 ghost use mathlib.Core.Bool.{true, false};
 ghost use mathlib.Core.List.{[], _∷_};
@@ -125,16 +126,6 @@ pub fn unqueue(s: &mut [u8], i: usize)
     ensures { λ _. ⌜ now (s .exit) ≡ laid (withLists (without-entry i (read (now (s .entry)) .lists)) (read (now (s .entry)))) (now (s .entry)) ⌝ }
 {
     list_remove(s, i);
-}
-
-fn fill(s: &mut [u8], v: u8)
-    ensures { λ _. ⌜ now (s .exit) ≡ replicate (length (now (s .entry))) v ⌝ }
-{
-    let mut i = 0;
-    while i < s.len() {
-        s[i] = v;
-        i += 1;
-    }
 }
 
 // Every entry joins the back of the free ones, in order.

@@ -1,38 +1,35 @@
 -- What each call comes to: its answer and its bytes, on the plain meaning.
-use Prim.Native.Nat.{ℕ, zero, suc, _+_, _-_, _*_, _<_, _≤_}
+use Prim.Native.Nat.{ℕ, _+_, _-_, _*_, _<_, _≤_}
 use mathlib.Core.Path.{_≡_, refl, sym, ap, _∙_, subst}
 use mathlib.Core.Logic.{_≢_, inl, inr}
-use mathlib.Core.List.{List, [], _∷_, _++_}
-use mathlib.Core.Bool.{Bool, true, false, cond, and-false}
+use mathlib.Core.List.{List, [], _∷_}
+use mathlib.Core.Bool.{true, false, and-false}
 use native.Mathlib.Omega.{arith}
 use native.Mathlib.Decide.{decLt}
-use lib.ListN.{length, getD, take, drop}
-use lib.Dec.{ltb, eqb}
+use lib.ListN.{length, take, drop}
 use borrow.Author.Tests.{lt-ltb, le-ltb, lt-leb, eq-eqb, ne-eqb}
 use Rattle.state.specs.Lengths.{keysAllowed, keysLength}
 use Rattle.state.specs.Result.{Result, refuse, done, answer, Bytes}
-use Rattle.state.proofs.Tests.{not-both}
 use Rattle.state.proofs.Calls.{Ends, not-whole, is-whole, refused, laid-out}
 use Rattle.multi_cycle_list.specs.Lists.{Lists, Fair, count, row, first, last, without-entry, movedFront, movedBack}
 use Rattle.multi_cycle_list.specs.Nodes as nodes
-use Rattle.multi_cycle_list.specs.declared.inner.Answer as list-answer
-use Rattle.multi_cycle_list.specs.declared.inner.Answer.the-variants as list-says
+use Rattle.multi_cycle_list.specs.declared.inner.MaybeEntry.{MaybeEntry}
+use Rattle.multi_cycle_list.specs.declared.inner.MaybeEntry.the-variants.{Some, None}
 use Rattle.multi_cycle_list.proofs.Lists.{In, in-count}
 use Rattle.multi_cycle_list.proofs.Arcs.{row-count}
-use Rattle.index_entries.specs.Keys.{Slot, free, holds, spent, Keys, hasKey, isFree, slot, Found, missing, at, found, FairKeys, withSlot, withLists, changed, fresh}
-use Rattle.index_entries.specs.Bytes.{kMax, entries, listPart, keyWord, value, slotOf, slotAt, read, wholeB}
+use Rattle.index_entries.specs.Keys.{Slot, free, holds, spent, Keys, hasKey, isFree, slot, Found, missing, at, found, FairKeys, withLists, changed, fresh}
+use Rattle.index_entries.specs.Bytes.{kMax, entries, keyWord, value, read, wholeB}
 use Rattle.index_entries.specs.Laid.{laid}
 use Rattle.index_entries.specs.Answers.{placeOf, heldOf}
-use Rattle.index_entries.specs.declared.look.Place.{Place}
 use Rattle.index_entries.specs.declared.look.Place.the-variants.{At, Nowhere}
 use Rattle.index_entries.specs.declared.look.Held as held
 use Rattle.index_entries.specs.declared.look.Held.the-variants as held-is
 use Rattle.index_entries.proofs.Find.{Looks, looks, key-not-free}
-use Rattle.index_entries.proofs.Facts.{Facts, facts-of, slot-in, slots-length, by-word, read-fair, laid-read}
+use Rattle.index_entries.proofs.Facts.{facts-of, slot-in, slots-length, by-word, read-fair, laid-read}
 use Rattle.index_entries.proofs.Acts.{lent-part}
-use Rattle.index_queue.specs.Calls.{isAt, contains, valueIn, get, storedIn, getMut, insertNew, insertIn, insert, removeIn, remove, keyIn, keyAt, front, back, queueIn, enqueueFront, enqueueBack, dequeue, opening, on, bytes, openedBytes}
+use Rattle.index_queue.specs.Calls.{contains, valueIn, get, storedIn, getMut, insertNew, insertIn, insert, removeIn, remove, keyAt, front, back, enqueueFront, enqueueBack, dequeue, opening, on, bytes, openedBytes}
 use Rattle.index_queue.specs.declared.Answer.{Answer}
-use Rattle.index_queue.specs.declared.Answer.the-variants.{Refused, NotTaken, Done, Nothing, Key, Value, Holds}
+use Rattle.index_queue.specs.declared.Answer.the-variants.{Refused, NotTaken, Done, Nothing, Value, Holds}
 
 never : {A : Type 0} → _≡_ {A = ℕ} 0 1 → A
 never h = absurd (omega arith)
@@ -192,17 +189,17 @@ insert-past m k v h = rw (lt-ltb (m .kMax) k h)
 
 -- ---- the ends of a list
 
-pub first-of : (l : List ℕ) (i : ℕ) → first l ≡ list-says.Is i → (r : List ℕ) × (l ≡ i ∷ r)
+pub first-of : (l : List ℕ) (i : ℕ) → first l ≡ Some i → (r : List ℕ) × (l ≡ i ∷ r)
 first-of [] i q = never (cc)
 first-of (x ∷ xs) i q = (xs, cc)
 
 head-in : (i : ℕ) (r : List ℕ) → 0 < count i (i ∷ r)
 head-in i r = in-count i (i ∷ r) (inl refl)
 
-first-in : (l : List ℕ) (i : ℕ) → first l ≡ list-says.Is i → 0 < count i l
+first-in : (l : List ℕ) (i : ℕ) → first l ≡ Some i → 0 < count i l
 first-in l i q = let w = first-of l i q in subst (λ (x : List ℕ). 0 < count i x) (sym (w .1)) (head-in i (w .0))
 
-last-in-list : (l : List ℕ) (i : ℕ) → last l ≡ list-says.Is i → In i l
+last-in-list : (l : List ℕ) (i : ℕ) → last l ≡ Some i → In i l
 last-in-list [] i q = never (cc)
 last-in-list (x ∷ []) i q = inl (cc)
 last-in-list (x ∷ (y ∷ ys)) i q = inr (last-in-list (y ∷ ys) i q)
@@ -219,13 +216,13 @@ module _ (s : List ℕ) (y : Bytes s) (h : wholeB s ≡ true) where
   unfolding r
   listed-entry c i q = omega (arith, in-size (read s .lists) (r .fair) c i q, r .entries, slots-length s)
 
-  pub first-entry : (c i : ℕ) → first (row (read s .lists) c) ≡ list-says.Is i → i < entries s
+  pub first-entry : (c i : ℕ) → first (row (read s .lists) c) ≡ Some i → i < entries s
   first-entry c i q = listed-entry c i (first-in (row (read s .lists) c) i q)
 
-  pub last-entry : (c i : ℕ) → last (row (read s .lists) c) ≡ list-says.Is i → i < entries s
+  pub last-entry : (c i : ℕ) → last (row (read s .lists) c) ≡ Some i → i < entries s
   last-entry c i q = listed-entry c i (in-count i (row (read s .lists) c) (last-in-list (row (read s .lists) c) i q))
 
-  pub first-free : (i : ℕ) → first (row (read s .lists) 1) ≡ list-says.Is i → isFree (slot (read s) i) ≡ true
+  pub first-free : (i : ℕ) → first (row (read s .lists) 1) ≡ Some i → isFree (slot (read s) i) ≡ true
   unfolding r
   first-free i q = r .listed-free i (first-in (row (read s .lists) 1) i q)
 
@@ -234,15 +231,15 @@ pub lent-row : (s : List ℕ) → wholeB s ≡ true → (n : ℕ) → n ≡ 6 + 
 lent-row s h n q c = ap (λ (x : List ℕ). row (nodes.read x) c) (lent-part s h n q)
 
 -- a free entry takes the new key; or none is free
-pub new-taken : (m : Keys) (k v i : ℕ) → first (row (m .lists) 1) ≡ list-says.Is i → insertNew k v m (row (m .lists) 1) ≡ done Nothing (changed i (holds k v) (without-entry i (m .lists)) m)
+pub new-taken : (m : Keys) (k v i : ℕ) → first (row (m .lists) 1) ≡ Some i → insertNew k v m (row (m .lists) 1) ≡ done Nothing (changed i (holds k v) (without-entry i (m .lists)) m)
 new-taken m k v i q = let w = first-of (row (m .lists) 1) i q in ap (insertNew k v m) (w .1)
 
-none-free : (l : List ℕ) → ((i : ℕ) → first l ≡ list-says.Is i → ⊥) → l ≡ []
-none-free [] h = refl
-none-free (x ∷ xs) h = absurd (h x refl)
+none-free : (l : List ℕ) → first l ≡ None → l ≡ []
+none-free [] q = refl
+none-free (x ∷ xs) q = never (cc)
 
-pub new-refused : (m : Keys) (k v : ℕ) (a : list-answer.Answer) → first (row (m .lists) 1) ≡ a → ((i : ℕ) → a ≡ list-says.Is i → ⊥) → insertNew k v m (row (m .lists) 1) ≡ refuse (NotTaken k v)
-new-refused m k v a q h = ap (insertNew k v m) (none-free (row (m .lists) 1) (λ i e. h i (sym q ∙ e)))
+pub new-refused : (m : Keys) (k v : ℕ) → first (row (m .lists) 1) ≡ None → insertNew k v m (row (m .lists) 1) ≡ refuse (NotTaken k v)
+new-refused m k v q = ap (insertNew k v m) (none-free (row (m .lists) 1) q)
 
 -- ---- opening
 
@@ -271,11 +268,11 @@ sizes-entries k e h = rw (lt-leb e 222 h, and-false)
 
 -- ---- the queue's ends
 
-pub front-is : (m : Keys) (a : list-answer.Answer) → first (row (m .lists) 0) ≡ a → front m ≡ done (keyAt m a) m
+pub front-is : (m : Keys) (a : MaybeEntry) → first (row (m .lists) 0) ≡ a → front m ≡ done (keyAt m a) m
 unfolding front
 front-is m a q = rw q
 
-pub back-is : (m : Keys) (a : list-answer.Answer) → last (row (m .lists) 0) ≡ a → back m ≡ done (keyAt m a) m
+pub back-is : (m : Keys) (a : MaybeEntry) → last (row (m .lists) 0) ≡ a → back m ≡ done (keyAt m a) m
 unfolding back
 back-is m a q = rw q
 
@@ -290,15 +287,3 @@ pub as-new : (s : List ℕ) → wholeB s ≡ true → (k v : ℕ) → k ≤ kMax
 as-new s h k v l e r t q =
     let z : on (insert k v) s ≡ insertNew k v (read s) (row (read s .lists) 1) = is-whole wholeB read laid (Refused 1) (insert k v) s h ∙ insert-none (read s) k e v l in
     (q .0 ∙ ap (λ (x : Result Answer Keys). answer x) (sym z), q .1 ∙ ap (λ (x : Result Answer Keys). bytes s x) (sym z))
-
-pub not-is-refused : {n : ℕ} (i : ℕ) → list-says.Refused n ≡ list-says.Is i → ⊥
-not-is-refused i q = never (cc)
-
-pub not-is-done : (i : ℕ) → list-says.Done ≡ list-says.Is i → ⊥
-not-is-done i q = never (cc)
-
-pub not-is-nothing : (i : ℕ) → list-says.Nothing ≡ list-says.Is i → ⊥
-not-is-nothing i q = never (cc)
-
-pub not-is-holds : {b : Bool} (i : ℕ) → list-says.Holds b ≡ list-says.Is i → ⊥
-not-is-holds i q = never (cc)

@@ -10,8 +10,8 @@ use Rattle.state.specs.Result as state
 use Rattle.state.specs.Result.{Result, refuse, done, Means}
 use Rattle.multi_cycle_list.specs.Lists as lists
 use Rattle.multi_cycle_list.specs.Lists.{row, first, last, without-entry, movedFront, movedBack}
-use Rattle.multi_cycle_list.specs.declared.inner.Answer as list-answer
-use Rattle.multi_cycle_list.specs.declared.inner.Answer.the-variants as list-says
+use Rattle.multi_cycle_list.specs.declared.inner.MaybeEntry.{MaybeEntry}
+use Rattle.multi_cycle_list.specs.declared.inner.MaybeEntry.the-variants.{Some, None}
 use Rattle.index_entries.specs.Keys.{Slot, free, holds, spent, Keys, slot, Found, missing, at, found, FairKeys, withSlot, withLists, changed, fresh}
 use Rattle.index_entries.specs.Bytes.{wholeB, read}
 use Rattle.index_entries.specs.Laid.{laid}
@@ -78,12 +78,9 @@ keyIn (holds k v) = Key k
 keyIn (spent k) = Key k
 
 -- the key of the entry that a list names
-abbrev pub keyAt : Keys → list-answer.Answer → Answer
-keyAt m (list-says.Refused n) = Nothing
-keyAt m list-says.Done = Nothing
-keyAt m (list-says.Is i) = keyIn (slot m i)
-keyAt m list-says.Nothing = Nothing
-keyAt m (list-says.Holds b) = Nothing
+abbrev pub keyAt : Keys → MaybeEntry → Answer
+keyAt m (Some i) = keyIn (slot m i)
+keyAt m None = Nothing
 
 unfoldable pub front : Keys → Result Answer Keys
 front m = done (keyAt m (first (row (m .lists) 0))) m

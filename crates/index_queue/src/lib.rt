@@ -14,16 +14,18 @@ use index_entries::look::get_index;
 use index_entries::look::held_at;
 use index_entries::look::word;
 use index_whole::whole;
+use multi_cycle_list::inner::MaybeEntry;
+use multi_cycle_list::inner::inner_back;
+use multi_cycle_list::inner::inner_front;
 ghost use mathlib.Core.Path.{_≡_};
 ghost use mathlib.Core.Bool.{true};
 ghost use Prim.Native.Nat.{_<_, _≤_};
 ghost use lib.ListN.{length};
 ghost use Rattle.state.specs.Result.{answer};
-ghost use Rattle.multi_cycle_list.specs.Lists.{first, last, row};
-ghost use Rattle.multi_cycle_list.specs.declared.inner.Answer as list-answer;
+ghost use Rattle.multi_cycle_list.specs.Lists.{first, row};
 ghost use Rattle.index_entries.specs.Keys.{found, missing, slot};
 ghost use Rattle.index_entries.specs.Bytes.{wholeB, read, entries, kMax};
-ghost use Rattle.index_queue.specs.Calls.{on, bytes, openedBytes, opening, contains, get, getMut, insert, insertNew, remove, front, back, keyAt, keyIn, enqueueFront, enqueueBack, dequeue, KeysMean};
+ghost use Rattle.index_queue.specs.Calls.{on, bytes, openedBytes, opening, contains, get, getMut, insert, insertNew, remove, front, back, keyIn, enqueueFront, enqueueBack, dequeue, KeysMean};
 
 pub enum Answer {
     Refused(u8),
@@ -117,16 +119,13 @@ fn insert_new(s: &mut [u8], key: u16, value: u32) -> Answer
     ensures { λ r. ⌜ (r ≡ answer (insertNew key value (read (now (s .entry))) (row (read (now (s .entry)) .lists) 1))) × (now (s .exit) ≡ bytes (now (s .entry)) (insertNew key value (read (now (s .entry))) (row (read (now (s .entry)) .lists) 1))) ⌝ }
 {
     let e = 8 + 2 * (s[3] as usize);
-    let f = multi_cycle_list::inner::inner_front(&s[2..e], 1);
+    let f = inner_front(&s[2..e], 1);
     match f {
-        multi_cycle_list::inner::Answer::Is(i) => {
+        MaybeEntry::Some(i) => {
             take_entry(s, i as usize, key, value);
             Answer::Nothing
         }
-        multi_cycle_list::inner::Answer::Refused(_) => Answer::NotTaken(key, value),
-        multi_cycle_list::inner::Answer::Done => Answer::NotTaken(key, value),
-        multi_cycle_list::inner::Answer::Nothing => Answer::NotTaken(key, value),
-        multi_cycle_list::inner::Answer::Holds(_) => Answer::NotTaken(key, value),
+        MaybeEntry::None => Answer::NotTaken(key, value),
     }
 }
 
@@ -199,13 +198,10 @@ pub fn front(s: &[u8]) -> Answer
         return Answer::Refused(1);
     }
     let e = 8 + 2 * (s[3] as usize);
-    let f = multi_cycle_list::inner::inner_front(&s[2..e], 0);
+    let f = inner_front(&s[2..e], 0);
     match f {
-        multi_cycle_list::inner::Answer::Is(i) => key_at(s, i as usize),
-        multi_cycle_list::inner::Answer::Refused(_) => Answer::Nothing,
-        multi_cycle_list::inner::Answer::Done => Answer::Nothing,
-        multi_cycle_list::inner::Answer::Nothing => Answer::Nothing,
-        multi_cycle_list::inner::Answer::Holds(_) => Answer::Nothing,
+        MaybeEntry::Some(i) => key_at(s, i as usize),
+        MaybeEntry::None => Answer::Nothing,
     }
 }
 
@@ -216,13 +212,10 @@ pub fn back(s: &[u8]) -> Answer
         return Answer::Refused(1);
     }
     let e = 8 + 2 * (s[3] as usize);
-    let f = multi_cycle_list::inner::inner_back(&s[2..e], 0);
+    let f = inner_back(&s[2..e], 0);
     match f {
-        multi_cycle_list::inner::Answer::Is(i) => key_at(s, i as usize),
-        multi_cycle_list::inner::Answer::Refused(_) => Answer::Nothing,
-        multi_cycle_list::inner::Answer::Done => Answer::Nothing,
-        multi_cycle_list::inner::Answer::Nothing => Answer::Nothing,
-        multi_cycle_list::inner::Answer::Holds(_) => Answer::Nothing,
+        MaybeEntry::Some(i) => key_at(s, i as usize),
+        MaybeEntry::None => Answer::Nothing,
     }
 }
 

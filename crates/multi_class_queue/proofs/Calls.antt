@@ -1,46 +1,44 @@
 -- What each call comes to: its answer and its bytes, on plain lists.
-use Prim.Native.Nat.{ℕ, zero, suc, _+_, _-_, _*_, _<_, _≤_, zero-le}
+use Prim.Native.Nat.{ℕ, zero, suc, _+_, _-_, _<_, _≤_}
 use mathlib.Core.Path.{_≡_, refl, sym, ap, _∙_, subst}
-use mathlib.Core.Logic.{_≢_, _⊎_, inl, inr, ⊎-elim}
+use mathlib.Core.Logic.{_≢_}
 use mathlib.Core.List.{List, [], _∷_, _++_}
 use mathlib.Core.Bool.{Bool, true, false, cond, _&&_, and-false}
 use native.Mathlib.Omega.{arith}
-use native.Mathlib.Decide.{ℕ-discrete, decLt}
+use native.Mathlib.Decide.{decLt}
 use native.Mathlib.Nat.{not-suc-le-zero}
-use lib.ListN.{length, getD, set, replicate, length-set, length-map, length-replicate}
-use lib.Dec.{ltb, leb, eqb}
-use borrow.Author.Tests.{lt-ltb, le-ltb, lt-leb, ltb-true, ltb-false, leb-true, eqb-true, eq-eqb, ne-eqb}
+use lib.ListN.{length, getD, length-set, length-map}
+use lib.Dec.{ltb, eqb}
+use borrow.Author.Tests.{lt-ltb, le-ltb, lt-leb, ltb-true, ltb-false, eqb-true, eq-eqb, ne-eqb}
 use Rattle.state.specs.Lengths.{listsAllowed, listsLength}
 use Rattle.state.specs.Seq.{each}
-use Rattle.state.specs.Result.{Result, refuse, done, answer, left, Bytes, Means}
+use Rattle.state.specs.Result.{Result, refuse, done, answer, left, Bytes}
 use Rattle.state.specs.Result as state
-use Rattle.state.proofs.Seq.{length-each}
 use Rattle.state.proofs.Tests.{not-both, false-of, and-l, and-r}
 use Rattle.state.proofs.Calls.{Ends, Kept, kept, not-whole, refused, laid-out}
 use Rattle.multi_cycle_list.specs.Nodes.{classes, entries, next, prev, wholeB, listOf, listsOf, read}
-use Rattle.multi_cycle_list.specs.Inner.{unbindB, bindAfterB, bindBeforeB, moveAfterB, moveBeforeB, aloneTo}
 use Rattle.multi_cycle_list.specs.Lists.{Lists, Fair, without, removed, pushedFront, pushedBack, withRows, without-entry, movedFront, movedBack, empty, row, first, last}
 use Rattle.multi_class_queue.specs.Inner.{refusal}
-use Rattle.multi_class_queue.specs.Calls.{inSize, none, says, which, front, back, isEmpty, isFront, isBack, remove, moveFront, moveBack, opening}
+use Rattle.multi_class_queue.specs.Calls.{inSize, named, isNone, says, which, front, back, isEmpty, isFront, isBack, remove, moveFront, moveBack, opening}
 use Rattle.multi_cycle_list.specs.Laid.{laid}
 use Rattle.multi_class_queue.specs.Calls.{over, on, bytes, Call, Front, Back, IsEmpty, IsFront, IsBack, Remove, MoveFront, MoveBack, step, Sized, ListsMean}
-use Rattle.multi_cycle_list.specs.declared.inner.Answer.{Answer}
-use Rattle.multi_cycle_list.specs.declared.inner.Answer.the-variants.{Refused, Done, Is, Nothing, Holds}
-use Rattle.multi_cycle_list.proofs.WholeTools.{Sizes, whole-sizes, allowed-of}
-use Rattle.multi_cycle_list.proofs.Chain.{Link, Chain}
+use Rattle.multi_class_queue.specs.declared.Answer.{Answer}
+use Rattle.multi_class_queue.specs.declared.Answer.the-variants.{Refused, Done, Is, Nothing, Holds}
+use Rattle.multi_cycle_list.proofs.WholeTools.{whole-sizes}
+use Rattle.multi_cycle_list.proofs.Chain.{Chain}
 use Rattle.multi_cycle_list.proofs.Sound.{linked-in, sound}
-use Rattle.multi_cycle_list.proofs.Meaning.{Turned, turned-whole, turned-lists, taken, unbound, removed-is, front-turned, back-turned, pushed-is, taken-is, list-at, asEntry, asClass, first-of, last-of}
+use Rattle.multi_cycle_list.proofs.Meaning.{list-at}
 use Rattle.multi_cycle_list.proofs.FreshMeaning.{opened}
 use Rattle.multi_cycle_list.proofs.Laid.{laid-read, laid-whole, read-laid, read-fair, whole-bytes}
 use Rattle.multi_cycle_list.proofs.Changes.{rows-length, remove-fair, front-fair, back-fair, empty-fair}
 
 module _ (s : List ℕ) (c : ℕ) (h : wholeB s ≡ true) (hc : c < classes s) where
-  none-of : (es : List ℕ) → Chain (classes s) (next s) (prev s) c es c → Holds (ltb (next s c) (classes s)) ≡ none es
+  none-of : (es : List ℕ) → Chain (classes s) (next s) (prev s) c es c → Holds (ltb (next s c) (classes s)) ≡ Holds (isNone (first es))
   none-of [] p = rw (p .0, lt-ltb c (classes s) hc)
   none-of (x ∷ xs) p = rw (p .0 .0, le-ltb (classes s + x) (classes s) (omega arith))
 
-  pub empty-is : Holds (ltb (next s c) (classes s)) ≡ none (row (read s) c)
-  empty-is = none-of (listOf s c) (sound s h .chains c hc) ∙ ap none (sym (list-at s c hc))
+  pub empty-is : Holds (ltb (next s c) (classes s)) ≡ Holds (isNone (first (row (read s) c)))
+  empty-is = none-of (listOf s c) (sound s h .chains c hc) ∙ ap (λ (l : List ℕ). Holds (isNone (first l))) (sym (list-at s c hc))
 
 which-at : (t : List ℕ → Bool) (n : ℕ) (f : ℕ → List ℕ) (k c : ℕ) → c < n → t (f c) ≡ true → ((d : ℕ) → d < n → t (f d) ≡ true → d ≡ c) → which t k (each n f) ≡ Is (k + c)
 unfolding which each
@@ -83,7 +81,11 @@ module _ (C : ℕ) (nx pv : ℕ → ℕ) (e : ℕ) where
   last-says (x ∷ xs) c hc p h = last-more x xs c (p .1) h
 
 module _ (s : List ℕ) (e : ℕ) (h : wholeB s ≡ true) (he : e < entries s) where
-  head-class : asClass s (prev s (classes s + e)) ≡ which (λ r. says e (first r)) 0 (listsOf s)
+  -- the node n as a class
+  abbrev asClass : ℕ → Answer
+  asClass n = cond (ltb n (classes s)) (Is n) Nothing
+
+  head-class : asClass (prev s (classes s + e)) ≡ which (λ r. says e (first r)) 0 (listsOf s)
   unfolding listsOf
   head-class =
       let C = classes s in
@@ -98,7 +100,7 @@ module _ (s : List ℕ) (e : ℕ) (h : wholeB s ≡ true) (he : e < entries s) w
         | no q ↦ rw (le-ltb p C (omega arith)) (sym (which-none t C (listOf s) 0 (λ d hd z. q (omega (arith, u d hd z)))))
       ]
 
-  tail-class : asClass s (next s (classes s + e)) ≡ which (λ r. says e (last r)) 0 (listsOf s)
+  tail-class : asClass (next s (classes s + e)) ≡ which (λ r. says e (last r)) 0 (listsOf s)
   unfolding listsOf
   tail-class =
       let C = classes s in
@@ -178,15 +180,15 @@ module _ (s : List ℕ) (c : ℕ) (hc : c < classes s) where
   class-in : ltb c (length (listsOf s)) ≡ true
   class-in = rw (rows-length s) (lt-ltb c (classes s) hc)
 
-  pub front-at : front c (read s) ≡ done (first (row (read s) c)) (read s)
+  pub front-at : front c (read s) ≡ done (named (first (row (read s) c))) (read s)
   unfolding front
   front-at = rw class-in
 
-  pub back-at : back c (read s) ≡ done (last (row (read s) c)) (read s)
+  pub back-at : back c (read s) ≡ done (named (last (row (read s) c))) (read s)
   unfolding back
   back-at = rw class-in
 
-  pub empty-at : isEmpty c (read s) ≡ done (none (row (read s) c)) (read s)
+  pub empty-at : isEmpty c (read s) ≡ done (Holds (isNone (first (row (read s) c)))) (read s)
   unfolding isEmpty
   empty-at = rw class-in
 
@@ -301,9 +303,9 @@ module _ (m : Lists) (f : Fair m) where
 
 step-fair : (k : Call) (m : Lists) → Fair m → Fair (left m (step k m))
 unfolding front back isEmpty isFront isBack remove moveFront moveBack
-step-fair (Front c) m f = unchanged m f (ltb c (length (m .rows))) (first (row m c))
-step-fair (Back c) m f = unchanged m f (ltb c (length (m .rows))) (last (row m c))
-step-fair (IsEmpty c) m f = unchanged m f (ltb c (length (m .rows))) (none (row m c))
+step-fair (Front c) m f = unchanged m f (ltb c (length (m .rows))) (named (first (row m c)))
+step-fair (Back c) m f = unchanged m f (ltb c (length (m .rows))) (named (last (row m c)))
+step-fair (IsEmpty c) m f = unchanged m f (ltb c (length (m .rows))) (Holds (isNone (first (row m c))))
 step-fair (IsFront e) m f = unchanged m f (ltb e (m .entries)) (which (λ r. says e (first r)) 0 (m .rows))
 step-fair (IsBack e) m f = unchanged m f (ltb e (m .entries)) (which (λ r. says e (last r)) 0 (m .rows))
 step-fair (Remove e) m f = sized-fair (ltb e (m .entries)) Done m (without-entry e m) f (λ z. remove-fair m f e (ltb-true e (m .entries) z))
@@ -319,9 +321,9 @@ removed-length e rs = length-map rs (without e)
 
 step-sized : (k : Call) (m : Lists) (n : ℕ) → Fair m → Sized m n → Sized (left m (step k m)) n
 unfolding front back isEmpty isFront isBack remove moveFront moveBack
-step-sized (Front c) m n f z = same-size (ltb c (length (m .rows))) (first (row m c)) m (m .rows) refl n z
-step-sized (Back c) m n f z = same-size (ltb c (length (m .rows))) (last (row m c)) m (m .rows) refl n z
-step-sized (IsEmpty c) m n f z = same-size (ltb c (length (m .rows))) (none (row m c)) m (m .rows) refl n z
+step-sized (Front c) m n f z = same-size (ltb c (length (m .rows))) (named (first (row m c))) m (m .rows) refl n z
+step-sized (Back c) m n f z = same-size (ltb c (length (m .rows))) (named (last (row m c))) m (m .rows) refl n z
+step-sized (IsEmpty c) m n f z = same-size (ltb c (length (m .rows))) (Holds (isNone (first (row m c)))) m (m .rows) refl n z
 step-sized (IsFront e) m n f z = same-size (ltb e (m .entries)) (which (λ r. says e (first r)) 0 (m .rows)) m (m .rows) refl n z
 step-sized (IsBack e) m n f z = same-size (ltb e (m .entries)) (which (λ r. says e (last r)) 0 (m .rows)) m (m .rows) refl n z
 step-sized (Remove e) m n f z = same-size (ltb e (m .entries)) Done m (removed e (m .rows)) (removed-length e (m .rows)) n z

@@ -11,8 +11,10 @@ use Rattle.state.specs.Result.{Result, refuse, done, Means}
 use Rattle.multi_cycle_list.specs.Lists.{Lists, Fair, row, first, last, empty, without-entry, movedFront, movedBack}
 use Rattle.multi_cycle_list.specs.Nodes.{wholeB, read}
 use Rattle.multi_cycle_list.specs.Laid.{laid}
-use Rattle.multi_cycle_list.specs.declared.inner.Answer.{Answer}
-use Rattle.multi_cycle_list.specs.declared.inner.Answer.the-variants.{Refused, Done, Is, Nothing, Holds}
+use Rattle.multi_cycle_list.specs.declared.inner.MaybeEntry.{MaybeEntry}
+use Rattle.multi_cycle_list.specs.declared.inner.MaybeEntry.the-variants.{Some, None}
+use Rattle.multi_class_queue.specs.declared.Answer.{Answer}
+use Rattle.multi_class_queue.specs.declared.Answer.the-variants.{Refused, Done, Is, Nothing, Holds}
 
 -- ---- on lists
 
@@ -26,17 +28,18 @@ hasClass m c = ltb c (length (m .rows))
 abbrev pub hasEntry : Lists → ℕ → Bool
 hasEntry m e = ltb e (m .entries)
 
-abbrev pub none : List ℕ → Answer
-none [] = Holds true
-none (x ∷ xs) = Holds false
+abbrev pub named : MaybeEntry → Answer
+named (Some x) = Is x
+named None = Nothing
 
--- the answer names e
-abbrev pub says : ℕ → Answer → Bool
-says e (Refused n) = false
-says e Done = false
-says e (Is x) = eqb x e
-says e Nothing = false
-says e (Holds b) = false
+abbrev pub isNone : MaybeEntry → Bool
+isNone (Some x) = false
+isNone None = true
+
+-- it is the entry e
+abbrev pub says : ℕ → MaybeEntry → Bool
+says e (Some x) = eqb x e
+says e None = false
 
 -- the first list of which t is true, counted from k
 unfoldable pub which : (List ℕ → Bool) → ℕ → List (List ℕ) → Answer
@@ -44,13 +47,13 @@ which t k [] = Nothing
 which t k (r ∷ rs) = cond (t r) (Is k) (which t (suc k) rs)
 
 unfoldable pub front : ℕ → Lists → Result Answer Lists
-front c m = inSize (hasClass m c) (done (first (row m c)) m)
+front c m = inSize (hasClass m c) (done (named (first (row m c))) m)
 
 unfoldable pub back : ℕ → Lists → Result Answer Lists
-back c m = inSize (hasClass m c) (done (last (row m c)) m)
+back c m = inSize (hasClass m c) (done (named (last (row m c))) m)
 
 unfoldable pub isEmpty : ℕ → Lists → Result Answer Lists
-isEmpty c m = inSize (hasClass m c) (done (none (row m c)) m)
+isEmpty c m = inSize (hasClass m c) (done (Holds (isNone (first (row m c)))) m)
 
 -- the class whose front, or back, is e
 unfoldable pub isFront : ℕ → Lists → Result Answer Lists

@@ -1,5 +1,5 @@
 // `MultiClassQueue`'s calls over lent bytes. 1: the bytes are not whole. 13: a class or an entry past the size, or sizes not allowed.
-use multi_cycle_list::inner::Answer;
+use multi_cycle_list::inner::MaybeEntry;
 use multi_cycle_list::inner::inner_back;
 use multi_cycle_list::inner::inner_front;
 use multi_cycle_list::inner::inner_move_back;
@@ -12,7 +12,15 @@ ghost use Prim.Native.Nat.{_<_};
 ghost use lib.ListN.{length};
 ghost use Rattle.state.specs.Result.{answer};
 ghost use Rattle.multi_class_queue.specs.Inner.{refusal};
-ghost use Rattle.multi_class_queue.specs.Calls.{on, bytes, opening, front, back, isEmpty, isFront, isBack, remove, moveFront, moveBack, ListsMean};
+ghost use Rattle.multi_class_queue.specs.Calls.{named, on, bytes, opening, front, back, isEmpty, isFront, isBack, remove, moveFront, moveBack, ListsMean};
+
+pub enum Answer {
+    Refused(u8),
+    Done,
+    Is(u8),
+    Nothing,
+    Holds(bool),
+}
 
 pub fn open(s: &mut [u8], classes: u32, entries: u32) -> Answer
     ensures { λ r. ⌜ (r ≡ answer (opening (length (now (s .entry))) classes entries)) × (now (s .exit) ≡ bytes (now (s .entry)) (opening (length (now (s .entry))) classes entries)) ⌝ }
@@ -48,6 +56,15 @@ fn refusal(s: &[u8], at: usize, x: u32) -> u8
     0
 }
 
+fn named(entry: MaybeEntry) -> Answer
+    ensures { λ r. ⌜ r ≡ named entry ⌝ }
+{
+    match entry {
+        MaybeEntry::Some(e) => Answer::Is(e),
+        MaybeEntry::None => Answer::Nothing,
+    }
+}
+
 pub fn front(s: &[u8], class: u32) -> Answer
     ensures { λ r. ⌜ r ≡ answer (on (front class) (now (s .entry))) ⌝ }
 {
@@ -55,7 +72,7 @@ pub fn front(s: &[u8], class: u32) -> Answer
     if n != 0 {
         return Answer::Refused(n);
     }
-    inner_front(s, class as usize)
+    named(inner_front(s, class as usize))
 }
 
 pub fn back(s: &[u8], class: u32) -> Answer
@@ -65,7 +82,7 @@ pub fn back(s: &[u8], class: u32) -> Answer
     if n != 0 {
         return Answer::Refused(n);
     }
-    inner_back(s, class as usize)
+    named(inner_back(s, class as usize))
 }
 
 pub fn is_empty(s: &[u8], class: u32) -> Answer

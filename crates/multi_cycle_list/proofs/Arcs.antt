@@ -32,7 +32,7 @@ row-count e [] c = zero-le
 row-count e (r ∷ rs) zero = omega arith
 row-count e (r ∷ rs) (suc c) = omega (arith, row-count e rs c)
 
-counts-in : (e : ℕ) (rs : List (List ℕ)) → 1 ≤ counts e rs → (c : ℕ) × (c < length rs) × In e (getD rs c [])
+pub counts-in : (e : ℕ) (rs : List (List ℕ)) → 1 ≤ counts e rs → (c : ℕ) × (c < length rs) × In e (getD rs c [])
 unfolding counts
 counts-in e [] h = absurd (not-suc-le-zero h)
 counts-in e (r ∷ rs) h =

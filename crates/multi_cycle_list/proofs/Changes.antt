@@ -1,28 +1,27 @@
 -- What the stores come to: the answers and the bytes of plain lists.
-use Prim.Native.Nat.{ℕ, zero, suc, _+_, _-_, _*_, _<_, _≤_, zero-le}
+use Prim.Native.Nat.{ℕ, zero, suc, _+_, _-_, _<_}
 use mathlib.Core.Path.{_≡_, refl, sym, ap, _∙_, subst}
-use mathlib.Core.Logic.{_≢_, _⊎_, inl, inr, ⊎-elim}
+use mathlib.Core.Logic.{_⊎_, ⊎-elim}
 use mathlib.Core.List.{List, [], _∷_, _++_}
-use mathlib.Core.Bool.{Bool, true, false, cond, _&&_, and-false}
+use mathlib.Core.Bool.{true, not}
 use native.Mathlib.Omega.{arith}
-use native.Mathlib.Decide.{ℕ-discrete, decLt}
-use native.Mathlib.Nat.{not-suc-le-zero}
-use lib.ListN.{length, getD, set, replicate, length-set, length-map, length-replicate}
-use lib.Dec.{ltb, leb, eqb}
-use borrow.Author.Tests.{lt-ltb, le-ltb, lt-leb, ltb-true, leb-true, eqb-true, eq-eqb, ne-eqb}
+use native.Mathlib.Decide.{decLt}
+use lib.ListN.{length, getD, set, replicate, length-replicate}
+use lib.Dec.{ltb, eqb}
+use borrow.Author.Tests.{lt-ltb, le-ltb, eq-eqb, ne-eqb}
 use Rattle.state.specs.Lengths.{listsAllowed, listsLength}
 use Rattle.state.specs.Seq.{each}
 use Rattle.state.proofs.Seq.{length-each}
 use Rattle.multi_cycle_list.specs.Nodes.{classes, entries, next, prev, wholeB, listOf, listsOf, read}
-use Rattle.multi_cycle_list.specs.Inner.{unbindB, bindAfterB, bindBeforeB, moveAfterB, moveBeforeB, aloneTo}
-use Rattle.multi_cycle_list.specs.Lists.{Lists, Fair, row, first, last, removed, pushedFront, pushedBack, withRows, without-entry, movedFront, movedBack, empty}
+use Rattle.multi_cycle_list.specs.Inner.{unbindB, moveAfterB, moveBeforeB, aloneTo}
+use Rattle.multi_cycle_list.specs.Lists.{Lists, Fair, counts, row, first, last, removed, pushedFront, pushedBack, withRows, without-entry, movedFront, movedBack, empty}
 use Rattle.multi_cycle_list.specs.Laid.{laid}
-use Rattle.multi_cycle_list.specs.declared.inner.Answer.{Answer}
-use Rattle.multi_cycle_list.specs.declared.inner.Answer.the-variants.{Is, Nothing}
-use Rattle.multi_cycle_list.proofs.WholeTools.{Sizes, whole-sizes, allowed-of}
-use Rattle.multi_cycle_list.proofs.Chain.{Link, Chain}
-use Rattle.multi_cycle_list.proofs.Sound.{linked-in, sound}
-use Rattle.multi_cycle_list.proofs.Meaning.{Turned, turned-whole, turned-lists, taken, unbound, removed-is, front-turned, back-turned, pushed-is, taken-is, list-at, asEntry, asClass, first-of, last-of}
+use Rattle.multi_cycle_list.proofs.WholeTools.{whole-sizes, allowed-of}
+use Rattle.multi_cycle_list.proofs.Lists.{In, in-count}
+use Rattle.multi_cycle_list.proofs.Chain.{Chain, tail-from}
+use Rattle.multi_cycle_list.proofs.Arcs.{row-count, counts-in}
+use Rattle.multi_cycle_list.proofs.Sound.{sound}
+use Rattle.multi_cycle_list.proofs.Meaning.{Turned, turned-whole, turned-lists, unbound, removed-is, front-turned, back-turned, pushed-is, taken-is, list-at, asEntry, first-of, last-of}
 use Rattle.multi_cycle_list.proofs.FreshMeaning.{opened}
 use Rattle.multi_cycle_list.proofs.Laid.{lists, laid-read, laid-whole, read-laid, read-fair}
 
@@ -38,6 +37,34 @@ module _ (s : List ℕ) (c : ℕ) (h : wholeB s ≡ true) (hc : c < classes s) w
 
   pub back-is : asEntry s (prev s c) ≡ last (row (read s) c)
   back-is = last-of s c (listOf s c) hc (sound s h .chains c hc) ∙ ap last (sym (list-at s c hc))
+
+-- an entry that is linked to itself heads no chain to a class
+no-loop : (C : ℕ) (nx pv : ℕ → ℕ) (e b : ℕ) → b < C → nx (C + e) ≡ C + e → (vs : List ℕ) → Chain C nx pv (C + e) vs b → ⊥
+no-loop C nx pv e b hb l [] p = omega (arith, p .0)
+no-loop C nx pv e b hb l (v ∷ vs) p =
+    let q : v ≡ e = omega (arith, p .0 .0) in
+    no-loop C nx pv e b hb l vs (subst (λ (z : ℕ). Chain C nx pv (C + z) vs b) q (p .1))
+
+module _ (s : List ℕ) (e : ℕ) (h : wholeB s ≡ true) (he : e < entries s) where
+  pub linked-is : not (eqb (next s (classes s + e)) (classes s + e)) ≡ ltb 0 (counts e (listsOf s))
+  linked-is =
+      let C = classes s in
+      let r = sound s h in
+      elim (decLt 0 (counts e (listsOf s))) [
+        | yes q ↦
+            (let w = counts-in e (listsOf s) q in
+            let hc : w .0 < C = omega (arith, w .1, rows-length s) in
+            let v = tail-from C (next s) (prev s) (listOf s (w .0)) (w .0) (w .0) e (r .chains (w .0) hc) (subst (λ (l : List ℕ). In e l) (list-at s (w .0) hc) (w .2)) in
+            ap not (ne-eqb (next s (C + e)) (C + e) (λ l. no-loop C (next s) (prev s) e (w .0) hc l (v .0) (v .1))) ∙ sym (lt-ltb 0 (counts e (listsOf s)) q))
+        | no q ↦
+            ap not (eq-eqb (next s (C + e)) (C + e)
+            (⊎-elim
+            (λ (w : (c : ℕ) × (c < C) × In e (listOf s c)).
+            absurd (q (omega (arith, row-count e (listsOf s) (w .0), in-count e (getD (listsOf s) (w .0) []) (subst (λ (l : List ℕ). In e l) (sym (list-at s (w .0) (w .1))) (w .2))))))
+            (λ l. l .0)
+            (r .places e he)))
+            ∙ sym (le-ltb 0 (counts e (listsOf s)) (omega arith))
+      ]
 
 -- ---- the bytes that each change leaves
 

@@ -1,23 +1,21 @@
 -- What the stores do to the lists that the bytes stand for; and the ends of a chain.
-use Prim.Native.Nat.{ℕ, zero, suc, _+_, _-_, _*_, _<_, _≤_, zero-le}
-use mathlib.Core.Path.{_≡_, refl, sym, ap, _∙_, subst}
-use mathlib.Core.Logic.{_≢_, _⊎_, inl, inr, ⊎-elim}
-use mathlib.Core.List.{List, [], _∷_, _++_, map}
-use mathlib.Core.Bool.{Bool, true, false, cond, _&&_, _||_}
+use Prim.Native.Nat.{ℕ, _+_, _-_, _*_, _<_}
+use mathlib.Core.Path.{_≡_, refl, sym, ap, _∙_}
+use mathlib.Core.Logic.{_⊎_, ⊎-elim}
+use mathlib.Core.List.{List, [], _∷_, _++_}
+use mathlib.Core.Bool.{true, cond}
 use native.Mathlib.Omega.{arith}
-use native.Mathlib.Nat.{not-suc-le-zero}
-use native.Mathlib.Decide.{ℕ-discrete, decLt}
-use lib.ListN.{length, getD, set}
+use lib.ListN.{getD, set}
 use lib.Dec.{ltb}
 use borrow.Author.Tests.{lt-ltb, le-ltb}
 use Rattle.multi_cycle_list.specs.Nodes.{classes, entries, next, prev, wholeB, listOf, listsOf}
-use Rattle.multi_cycle_list.specs.Inner.{unbindB, bindAfterB, bindBeforeB, Within}
+use Rattle.multi_cycle_list.specs.Inner.{unbindB, bindAfterB, bindBeforeB}
 use Rattle.state.specs.Seq.{each}
 use Rattle.state.proofs.Seq.{each-same, map-each, getD-each, set-each}
-use Rattle.multi_cycle_list.specs.Lists.{without, removed, pushedFront, pushedBack, first, last}
-use Rattle.multi_cycle_list.specs.declared.inner.Answer.{Answer}
-use Rattle.multi_cycle_list.specs.declared.inner.Answer.the-variants.{Refused, Is, Nothing}
-use Rattle.multi_cycle_list.proofs.WholeTools.{Sizes, LinkedAt, whole-sizes}
+use Rattle.multi_cycle_list.specs.Lists.{without, removed, first, last}
+use Rattle.multi_cycle_list.specs.declared.inner.MaybeEntry.{MaybeEntry}
+use Rattle.multi_cycle_list.specs.declared.inner.MaybeEntry.the-variants.{Some, None}
+use Rattle.multi_cycle_list.proofs.WholeTools.{Sizes, whole-sizes}
 use Rattle.multi_cycle_list.proofs.Lists.{In, of-without}
 use Rattle.multi_cycle_list.proofs.Chain.{Link, Chain}
 use Rattle.multi_cycle_list.proofs.Stores.{unbinds, binds-after, binds-before, Same, unbind-same, after-same, before-same}
@@ -115,12 +113,9 @@ module _ (s : List ℕ) (e : ℕ) (h : wholeB s ≡ true) (he : e < entries s) w
 
 -- ---- the answers
 
--- the node n as an entry, and as a class
-abbrev pub asEntry : List ℕ → ℕ → Answer
-asEntry s n = cond (ltb n (classes s)) Nothing (Is (n - classes s))
-
-abbrev pub asClass : List ℕ → ℕ → Answer
-asClass s n = cond (ltb n (classes s)) (Is n) Nothing
+-- the node n as an entry
+abbrev pub asEntry : List ℕ → ℕ → MaybeEntry
+asEntry s n = cond (ltb n (classes s)) None (Some (n - classes s))
 
 pub list-at : (s : List ℕ) (c : ℕ) → c < classes s → getD (listsOf s) c [] ≡ listOf s c
 unfolding listsOf

@@ -1,23 +1,24 @@
 -- The bytes are whole exactly where their links stand for lists, and then for the lists that `listOf` reads off them.
-use Prim.Native.Nat.{ℕ, zero, suc, _+_, _-_, _*_, _<_, _≤_, zero-le}
+use Prim.Native.Nat.{ℕ, suc, _+_, _-_, _*_, _<_}
 use mathlib.Core.Path.{_≡_, refl, sym, ap, _∙_, subst}
-use mathlib.Core.Logic.{_≢_, _⊎_, inl, inr, ⊎-elim}
-use mathlib.Core.List.{List, [], _∷_, _++_, map}
+use mathlib.Core.Logic.{_⊎_, inl, inr, ⊎-elim}
+use mathlib.Core.List.{List, map}
 use mathlib.Core.Bool.{Bool, true, false, _&&_, _||_, not, or-true}
 use native.Mathlib.Omega.{arith}
 use lib.ListN.{length, getD}
-use lib.Dec.{eqb, ltb, leb}
+use lib.Dec.{eqb, ltb}
 use borrow.Author.Tests.{lt-ltb, ltb-true, eq-eqb, ne-eqb, eqb-true}
-use Rattle.multi_cycle_list.specs.Nodes.{classes, entries, next, prev, trace, traceEnd, sizesB, linkedAt, closes, placed, wholeB, listOf}
-use Rattle.multi_cycle_list.specs.Inner.{marks, marksOf, placedBy, Marked, Whole}
+use Rattle.multi_cycle_list.specs.Nodes.{classes, entries, next, prev, sizesB, linkedAt, closes, placed, wholeB, listOf}
+use Rattle.multi_cycle_list.specs.Inner.{marksOf, meetsAt, placedBy, Marked, Whole}
 use Rattle.multi_cycle_list.specs.Lists.{count}
 use Rattle.state.specs.Seq.{allB, someB}
-use Rattle.state.proofs.Seq.{all-true, all-at, all-same, some-true, some-at}
-use Rattle.state.proofs.Tests.{or-split, false-of, not-both}
-use Rattle.multi_cycle_list.proofs.WholeTools.{Sizes, LinkedAt, Parts, parts-of, sizes-of, sizes-last, linked-of, whole-last}
-use Rattle.multi_cycle_list.proofs.Lists.{In, Below, count-in, in-count}
-use Rattle.multi_cycle_list.proofs.Chain.{Link, Chain, one-class}
-use Rattle.multi_cycle_list.proofs.Marks.{Met, Unmet, marked-by, chain-end, chain-trace, trace-chain, trace-inside, map-back, in-entries, in-trace}
+use Rattle.state.proofs.Seq.{all-true, all-at, some-true, some-at}
+use Rattle.state.proofs.Tests.{or-split, and-l, and-r, false-of, not-both, same-test}
+use Rattle.multi_cycle_list.proofs.WholeTools.{Sizes, LinkedAt, Parts, parts-of, sizes-of, sizes-last, linked-of}
+use Rattle.multi_cycle_list.proofs.Lists.{In, count-in, in-count}
+use Rattle.multi_cycle_list.proofs.Chain.{one-class}
+use Rattle.multi_cycle_list.proofs.Trace.{chain-end, chain-trace, trace-chain, trace-inside, map-back}
+use Rattle.multi_cycle_list.proofs.Marks.{Met, Unmet, closed-at, marked-by, meets-of}
 use Rattle.multi_cycle_list.proofs.Rep.{Rep, rep-length, rep-next, rep-prev}
 
 -- what the bytes s stand for
@@ -90,60 +91,88 @@ complete s ls z r =
           (r .places e he));
     })
 
--- ---- the marks of the code
-
-listed : (s : List ℕ) (e c : ℕ) → In (classes s + e) (trace (entries s) (classes s) s (next s c)) → 0 < count e (listOf s c)
-unfolding listOf
-listed s e c i = in-count e _ (in-entries (classes s) (trace (entries s) (classes s) s (next s c)) e i)
-
-traced : (s : List ℕ) (e c : ℕ) → 0 < count e (listOf s c) → In (classes s + e) (trace (entries s) (classes s) s (next s c))
-unfolding listOf
-traced s e c h = in-trace (classes s) s (entries s) (next s c) e (count-in e _ h)
-
-pub placed-by : (s : List ℕ) → Sizes s → (e : ℕ) → e < entries s → placedBy s (marksOf s (classes s)) (classes s + e) ≡ placed s e
-placed-by s z e he =
-    let C = classes s in
-    let x = C + e in
-    let f : ℕ → Bool = λ c. ltb 0 (count e (listOf s c)) in
-    let v = getD (marksOf s C) x 0 in
-    ap (λ (b : Bool). eqb (next s x) x || b)
-    (⊎-elim
-    (λ (w : Met s C x v). ap not (ne-eqb v 0 (omega (arith, w .is))) ∙ sym (some-true C f (w .class) (w .below) (lt-ltb 0 (count e (listOf s (w .class))) (listed s e (w .class) (w .met)))))
-    (λ (w : Unmet s C x v). ap not (eq-eqb v 0 (w .is)) ∙ sym (false-of (someB C f) (λ h. let r = some-at C f h in w .none (r .0) (r .1) (traced s e (r .0) (ltb-true 0 (count e (listOf s (r .0))) (r .2))))))
-    (marked-by s C x (omega arith)))
-
-pub marks-tell : (s : List ℕ) → wholeB s ≡ true → Marked s (marksOf s (classes s))
-marks-tell s h =
-    let C = classes s in
-    let z = sizes-of s (parts-of s h .sizes) in
-    let r = sound s h in
-    record {
-      in-class = λ e c he hc i.
-          ⊎-elim
-          (λ (w : Met s C (C + e) (getD (marksOf s C) (C + e) 0)).
-          w .is ∙ ap suc (one-class C (next s) (prev s) (listOf s) e (w .class) c (w .below) hc (r .chains (w .class) (w .below)) (r .chains c hc) (count-in e (listOf s (w .class)) (listed s e (w .class) (w .met))) (count-in e (listOf s c) i)))
-          (λ (w : Unmet s C (C + e) (getD (marksOf s C) (C + e) 0)). absurd (w .none c hc (traced s e c i)))
-          (marked-by s C (C + e) (omega arith));
-      of-class = λ e c he q.
-          ⊎-elim
-          (λ (w : Met s C (C + e) (getD (marksOf s C) (C + e) 0)).
-          let k : w .class ≡ c = omega (arith, w .is) in
-          subst (λ (d : ℕ). (d < C) × (0 < count e (listOf s d))) k (w .below, listed s e (w .class) (w .met)))
-          (λ (w : Unmet s C (C + e) (getD (marksOf s C) (C + e) 0)). absurd (omega (arith, w .is)))
-          (marked-by s C (C + e) (omega arith));
-    }
-
--- ---- the code's test
+-- ---- the test of the code
 
 pub not-whole-marked : (s seen : List ℕ) → wholeB s ≡ false → Whole s seen false
 not-whole-marked s seen h = record { test = sym h; marked = λ t. not-both (sym t) }
 
-pub whole-marked : (s seen : List ℕ) (r : Bool) → sizesB s ≡ true → allB (classes s + entries s) (linkedAt s (classes s + entries s)) ≡ true → allB (classes s) (closes s) ≡ true
-    → seen ≡ marksOf s (classes s) → r ≡ allB (entries s) (λ k. placedBy s seen (classes s + k)) → Whole s seen r
-whole-marked s seen r h1 h2 h3 m p =
-    let q : r ≡ wholeB s =
+pub whole-no-cycles : (s : List ℕ) → sizesB s ≡ true → allB (classes s) (meetsAt s) ≡ false → wholeB s ≡ false
+whole-no-cycles s h q =
+    false-of (wholeB s) (λ w.
+    let r = sound s w in
+    not-both (sym (all-true (classes s) (meetsAt s) (λ c hc. meets-of s (sizes-of s h) c hc (r .chains c hc) (r .inside c hc))) ∙ q))
+
+module _ (s : List ℕ) (z : Sizes s) (m : (c : ℕ) → c < classes s → meetsAt s c ≡ true) where
+  mark : ℕ → ℕ
+  mark e = getD (marksOf s (classes s)) (classes s + e) 0
+
+  by : (e : ℕ) → e < entries s → Met s (classes s) e (mark e) ⊎ Unmet s (classes s) e (mark e)
+  unfolding mark
+  by e he = marked-by s z (classes s) e (omega arith) he m
+
+  -- an entry that is marked, or linked to itself, is in its place
+  placed-stands : ((e : ℕ) → e < entries s → placedBy s (marksOf s (classes s)) (classes s + e) ≡ true) → Stands s (listOf s)
+  unfolding mark
+  placed-stands p =
+      record {
+        chains = λ c hc. closed-at s z c hc (m c hc) .chain;
+        inside = λ c hc. closed-at s z c hc (m c hc) .inside;
+        places = λ e he.
+            let x = classes s + e in
+            ⊎-elim
+            (λ (w : Met s (classes s) e (mark e)). inl (w .class, w .below, w .met))
+            (λ (w : Unmet s (classes s) e (mark e)).
+            ⊎-elim
+            (λ q. not-both (sym q ∙ ap not (eq-eqb (mark e) 0 (w .is))))
+            (λ q. inr (eqb-true (next s x) x (and-l (eqb (next s x) x) (eqb (prev s x) x) q), eqb-true (prev s x) x (and-r (eqb (next s x) x) (eqb (prev s x) x) q)))
+            (or-split (not (eqb (mark e) 0)) (eqb (next s x) x && eqb (prev s x) x) (p e he)))
+            (by e he);
+      }
+
+  stands-placed : Stands s (listOf s) → (e : ℕ) → e < entries s → placedBy s (marksOf s (classes s)) (classes s + e) ≡ true
+  unfolding mark
+  stands-placed r e he =
+      let x = classes s + e in
+      ⊎-elim
+      (λ (w : Met s (classes s) e (mark e)). rw (ne-eqb (mark e) 0 (omega (arith, w .is))))
+      (λ (w : Unmet s (classes s) e (mark e)).
+      ⊎-elim
+      (λ (i : (c : ℕ) × (c < classes s) × In e (listOf s c)). absurd (w .none (i .0) (i .1) (i .2)))
+      (λ l. rw (eq-eqb (next s x) x (l .0), eq-eqb (prev s x) x (l .1), or-true))
+      (r .places e he))
+      (by e he)
+
+  marks-tell : Stands s (listOf s) → Marked s (marksOf s (classes s))
+  unfolding mark
+  marks-tell r =
+      let C = classes s in
+      record {
+        in-class = λ e c he hc i.
+            ⊎-elim
+            (λ (w : Met s C e (mark e)).
+            w .is ∙ ap suc (one-class C (next s) (prev s) (listOf s) e (w .class) c (w .below) hc (r .chains (w .class) (w .below)) (r .chains c hc) (w .met) (count-in e (listOf s c) i)))
+            (λ (w : Unmet s C e (mark e)). absurd (w .none c hc (count-in e (listOf s c) i)))
+            (by e he);
+        of-class = λ e c he q.
+            ⊎-elim
+            (λ (w : Met s C e (mark e)).
+            let k : w .class ≡ c = omega (arith, w .is) in
+            subst (λ (d : ℕ). (d < C) × (0 < count e (listOf s d))) k (w .below, in-count e (listOf s (w .class)) (w .met)))
+            (λ (w : Unmet s C e (mark e)). absurd (omega (arith, w .is)))
+            (by e he);
+      }
+
+pub whole-marked : (s seen : List ℕ) (r : Bool) → sizesB s ≡ true → allB (classes s) (meetsAt s) ≡ true → seen ≡ marksOf s (classes s)
+    → r ≡ allB (entries s) (λ k. placedBy s seen (classes s + k)) → Whole s seen r
+whole-marked s seen r h1 h2 q p =
+    let C = classes s in
+    let z = sizes-of s h1 in
+    let m = all-at C (meetsAt s) h2 in
+    let f : ℕ → Bool = λ k. placedBy s (marksOf s C) (C + k) in
+    let t : r ≡ wholeB s =
     p
-    ∙ ap (λ (l : List ℕ). allB (entries s) (λ k. placedBy s l (classes s + k))) m
-    ∙ all-same (entries s) (λ k. placedBy s (marksOf s (classes s)) (classes s + k)) (placed s) (placed-by s (sizes-of s h1))
-    ∙ sym (whole-last s h1 h2 h3) in
-    record { test = q; marked = λ t. subst (λ (l : List ℕ). Marked s l) (sym m) (marks-tell s (sym q ∙ t)) }
+    ∙ ap (λ (l : List ℕ). allB (entries s) (λ k. placedBy s l (C + k))) q
+    ∙ same-test (allB (entries s) f) (wholeB s)
+    (λ h. complete s (listOf s) z (placed-stands s z m (all-at (entries s) f h)))
+    (λ h. all-true (entries s) f (stands-placed s z m (sound s h))) in
+    record { test = t; marked = λ h. subst (λ (l : List ℕ). Marked s l) (sym q) (marks-tell s z m (sound s (sym t ∙ h))) }

@@ -1,22 +1,18 @@
 -- What the parts of the test of wholeness tell.
-use Prim.Native.Nat.{ℕ, zero, suc, _+_, _-_, _*_, _^_, _<_, _≤_}
-use mathlib.Core.Path.{_≡_, refl, sym, ap, _∙_, subst}
-use mathlib.Core.Logic.{_≢_}
-use mathlib.Core.Bool.{Bool, true, false, _&&_, _||_, and-false}
+use Prim.Native.Nat.{ℕ, _+_, _-_, _*_, _<_, _≤_}
+use mathlib.Core.Path.{_≡_}
+use mathlib.Core.Bool.{true, false, _&&_}
 use mathlib.Core.List.{List}
 use native.Mathlib.Omega.{arith}
-use native.Mathlib.Numerals.{add-one}
-use native.Mathlib.Decide.{ℕ-discrete}
-use native.Mathlib.Nat.{not-suc-le-zero}
-use lib.ListN.{length, getD}
+use lib.ListN.{length}
 use lib.Dec.{eqb, ltb, leb}
 use borrow.Author.Tests.{ltb-true, leb-true, le-leb, eqb-true}
 use Rattle.state.specs.Lengths.{listsAllowed, listsLength}
 use Rattle.state.proofs.Tests.{and-l, and-r, and4}
 use Rattle.state.proofs.Seq.{all-at}
 use Rattle.state.specs.Seq.{allB}
-use Rattle.multi_cycle_list.specs.Nodes.{sizesB, linkedAt, classes, entries, next, prev, trace, closes, placed, wholeB}
-use Rattle.multi_cycle_list.specs.Inner.{marks, marksOf, Within}
+use Rattle.multi_cycle_list.specs.Nodes.{sizesB, linkedAt, classes, entries, next, prev, closes, placed, wholeB}
+use Rattle.multi_cycle_list.specs.Inner.{Within}
 
 pub record Sizes (s : List ℕ) : Type 0 where
   pub some : 1 ≤ classes s
@@ -72,19 +68,6 @@ pub whole-no-sizes : (s : List ℕ) → sizesB s ≡ false → wholeB s ≡ fals
 unfolding wholeB
 whole-no-sizes s h = rw h
 
-pub whole-no-links : (s : List ℕ) → allB (classes s + entries s) (linkedAt s (classes s + entries s)) ≡ false → wholeB s ≡ false
-unfolding wholeB
-whole-no-links s h = rw (h, and-false)
-
-pub whole-no-cycles : (s : List ℕ) → allB (classes s) (closes s) ≡ false → wholeB s ≡ false
-unfolding wholeB
-whole-no-cycles s h = simp (h, and-false)
-
-pub whole-last : (s : List ℕ) → sizesB s ≡ true → allB (classes s + entries s) (linkedAt s (classes s + entries s)) ≡ true → allB (classes s) (closes s) ≡ true
-    → wholeB s ≡ allB (entries s) (placed s)
-unfolding wholeB
-whole-last s h1 h2 h3 = rw (h1, h2, h3)
-
 pub record Parts (s : List ℕ) : Type 0 where
   pub sizes : sizesB s ≡ true
   pub links : allB (classes s + entries s) (linkedAt s (classes s + entries s)) ≡ true
@@ -102,7 +85,3 @@ whole-sizes s h = sizes-of s (parts-of s h .sizes)
 
 pub whole-within : (s : List ℕ) → wholeB s ≡ true → Within s (classes s + entries s)
 whole-within s h = within-of s (parts-of s h .sizes) (parts-of s h .links)
-
-pub marks-more : (s : List ℕ) (k : ℕ) → marksOf s (k + 1) ≡ marks (k + 1) (trace (entries s) (classes s) s (next s k)) (marksOf s k)
-unfolding marksOf
-marks-more s k = rw add-one

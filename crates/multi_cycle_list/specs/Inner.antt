@@ -1,12 +1,12 @@
 -- What the inner functions store, as the code goes. No contract of a public call cites this.
 use Prim.Native.Nat.{ℕ, zero, suc, _+_, _*_, _<_, _≤_}
 use mathlib.Core.Path.{_≡_}
-use mathlib.Core.List.{List, [], _∷_}
-use mathlib.Core.Bool.{Bool, true, _||_, not}
+use mathlib.Core.List.{List}
+use mathlib.Core.Bool.{Bool, true, false, cond, _&&_, _||_, not}
 use lib.ListN.{length, getD, set, replicate}
-use lib.Dec.{eqb, ltb}
+use lib.Dec.{eqb, ltb, leb}
 use Rattle.multi_cycle_list.specs.Lists.{count}
-use Rattle.multi_cycle_list.specs.Nodes.{classes, entries, next, prev, trace, listOf, wholeB}
+use Rattle.multi_cycle_list.specs.Nodes.{classes, entries, next, prev, listOf, wholeB}
 
 abbrev pub setNext : List ℕ → ℕ → ℕ → List ℕ
 setNext s i v = set s (2 + 2 * i) v
@@ -44,23 +44,55 @@ unfoldable pub aloneTo : List ℕ → ℕ → List ℕ
 aloneTo s zero = s
 aloneTo s (suc k) = setPrev (setNext (aloneTo s k) k k) k k
 
--- ---- the marks of the test of wholeness: at each node met from a class, the class's number and one more
+-- ---- the test of wholeness
 
-unfoldable pub marks : ℕ → List ℕ → List ℕ → List ℕ
-marks v [] l = l
-marks v (x ∷ xs) l = marks v xs (set l x v)
+-- the node after i, and before i; n where the link leads out of the n nodes or does not come back
+abbrev pub ahead : List ℕ → ℕ → ℕ → ℕ
+ahead s n i = cond (ltb (next s i) n && eqb (prev s (next s i)) i) (next s i) n
+
+abbrev pub behind : List ℕ → ℕ → ℕ → ℕ
+behind s n i = cond (ltb (prev s i) n && eqb (next s (prev s i)) i) (prev s i) n
+
+-- whether two ends met, and the marks
+pub record Trail : Type 0 where
+  pub met : Bool
+  pub seen : List ℕ
+
+abbrev pub ended : Bool → List ℕ → Trail
+ended b l = record { met = b; seen = l }
+
+-- no entry's node, of n nodes and c classes
+abbrev pub off : ℕ → ℕ → ℕ → Bool
+off n c x = ltb x c || leb n x
+
+-- from the node f ahead and from the node b behind at once, at most k steps, through entries alone, until they meet; each entry's node is marked with v
+unfoldable pub trail : ℕ → ℕ → ℕ → List ℕ → ℕ → ℕ → ℕ → List ℕ → Trail
+trail zero n c s f b v l = ended false l
+trail (suc k) n c s f b v l =
+    cond (eqb (ahead s n f) b) (ended true l)
+    (cond (off n c (ahead s n f)) (ended false l)
+    (cond (eqb (behind s n b) (ahead s n f)) (ended true (set l (ahead s n f) v))
+    (cond (off n c (behind s n b)) (ended false (set l (ahead s n f) v))
+    (trail k n c s (ahead s n f) (behind s n b) v (set (set l (ahead s n f) v) (behind s n b) v)))))
 
 unfoldable pub unmarked : List ℕ
 unmarked = replicate 256 0
 
--- the nodes met from the classes below k, marked
+-- the trail of the class k, on marks
+abbrev pub trailAt : List ℕ → ℕ → List ℕ → Trail
+trailAt s k l = trail (classes s + entries s) (classes s + entries s) (classes s) s k k (k + 1) l
+
+-- the marks of the classes below k: at each entry's node the class's number and one more
 unfoldable pub marksOf : List ℕ → ℕ → List ℕ
 marksOf s zero = unmarked
-marksOf s (suc k) = marks (suc k) (trace (entries s) (classes s) s (next s k)) (marksOf s k)
+marksOf s (suc k) = trailAt s k (marksOf s k) .seen
 
--- the node x is linked to itself or marked
+abbrev pub meetsAt : List ℕ → ℕ → Bool
+meetsAt s k = trailAt s k (marksOf s k) .met
+
+-- the node x is marked, or linked to itself
 abbrev pub placedBy : List ℕ → List ℕ → ℕ → Bool
-placedBy s seen x = eqb (next s x) x || not (eqb (getD seen x 0) 0)
+placedBy s seen x = not (eqb (getD seen x 0) 0) || (eqb (next s x) x && eqb (prev s x) x)
 
 -- what the marks of whole bytes tell: the class of each entry, and one more; 0 for an unbound one
 pub record Marked (s seen : List ℕ) : Type 0 where

@@ -6,8 +6,8 @@ use mathlib.Core.Bool.{true, cond}
 use lib.ListN.{length, getD, set, replicate}
 use lib.Dec.{eqb}
 use Rattle.state.specs.Lengths.{listsAllowed}
-use Rattle.multi_cycle_list.specs.declared.inner.Answer.{Answer}
-use Rattle.multi_cycle_list.specs.declared.inner.Answer.the-variants.{Is, Nothing}
+use Rattle.multi_cycle_list.specs.declared.inner.MaybeEntry.{MaybeEntry}
+use Rattle.multi_cycle_list.specs.declared.inner.MaybeEntry.the-variants.{Some, None}
 
 -- how many entries there are, and the list of each class
 pub record Lists : Type 0 where
@@ -66,11 +66,11 @@ abbrev pub row : Lists → ℕ → List ℕ
 row m c = getD (m .rows) c []
 
 -- the first and the last of a list, if any
-abbrev pub first : List ℕ → Answer
-first [] = Nothing
-first (x ∷ xs) = Is x
+abbrev pub first : List ℕ → MaybeEntry
+first [] = None
+first (x ∷ xs) = Some x
 
-abbrev pub last : List ℕ → Answer
-last [] = Nothing
-last (x ∷ []) = Is x
+abbrev pub last : List ℕ → MaybeEntry
+last [] = None
+last (x ∷ []) = Some x
 last (x ∷ (y ∷ ys)) = last (y ∷ ys)

@@ -6,20 +6,16 @@ use crate::cycle::unbind;
 ghost use mathlib.Core.Path.{_≡_};
 ghost use mathlib.Core.Bool.{true};
 ghost use Prim.Native.Nat.{_+_, _<_};
-ghost use lib.ListN.{length, replicate};
-ghost use mathlib.Core.List.{[]};
+ghost use lib.Dec.{ltb};
+ghost use lib.ListN.{length};
 ghost use Rattle.state.specs.Lengths.{listsAllowed, listsLength};
-ghost use Rattle.multi_cycle_list.specs.Lists.{first, last, row, empty, without-entry, movedFront, movedBack};
+ghost use Rattle.multi_cycle_list.specs.Lists.{first, last, row, counts, empty, without-entry, movedFront, movedBack};
 ghost use Rattle.multi_cycle_list.specs.Nodes.{wholeB, classes, entries, read};
 ghost use Rattle.multi_cycle_list.specs.Laid.{laid};
 
-// An answer of a list queue's calls.
-pub enum Answer {
-    Refused(u8),
-    Done,
-    Is(u8),
-    Nothing,
-    Holds(bool),
+pub enum MaybeEntry {
+    Some(u8),
+    None,
 }
 
 // Every byte is written: each class empty, each entry unbound.
@@ -32,28 +28,38 @@ pub fn inner_open(s: &mut [u8], classes: usize, entries: usize)
     alone(s, classes + entries);
 }
 
-pub fn inner_front(s: &[u8], class: usize) -> Answer
+pub fn inner_front(s: &[u8], class: usize) -> MaybeEntry
     requires { ⌜ (wholeB (now s) ≡ true) × (class < classes (now s)) ⌝ }
     ensures { λ r. ⌜ r ≡ first (row (read (now (s .entry))) class) ⌝ }
 {
     let c = s[0];
     let n = s[2 + 2 * class];
     if n < c {
-        return Answer::Nothing;
+        return MaybeEntry::None;
     }
-    Answer::Is(n - c)
+    MaybeEntry::Some(n - c)
 }
 
-pub fn inner_back(s: &[u8], class: usize) -> Answer
+pub fn inner_back(s: &[u8], class: usize) -> MaybeEntry
     requires { ⌜ (wholeB (now s) ≡ true) × (class < classes (now s)) ⌝ }
     ensures { λ r. ⌜ r ≡ last (row (read (now (s .entry))) class) ⌝ }
 {
     let c = s[0];
     let n = s[3 + 2 * class];
     if n < c {
-        return Answer::Nothing;
+        return MaybeEntry::None;
     }
-    Answer::Is(n - c)
+    MaybeEntry::Some(n - c)
+}
+
+// Whether the entry stands in some class's list.
+pub fn inner_is_linked(s: &[u8], entry: usize) -> bool
+    requires { ⌜ (wholeB (now s) ≡ true) × (entry < entries (now s)) ⌝ }
+    ensures { λ r. ⌜ r ≡ ltb 0 (counts entry ((read (now (s .entry))) .rows)) ⌝ }
+{
+    let c = s[0] as usize;
+    let i = c + entry;
+    s[2 + 2 * i] as usize != i
 }
 
 pub fn inner_remove(s: &mut [u8], entry: usize)

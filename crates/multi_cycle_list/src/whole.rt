@@ -1,10 +1,11 @@
 // Whether bytes are a whole list queue.
 ghost use mathlib.Core.Path.{_≡_};
-ghost use Prim.Native.Nat.{ℕ, _+_, _*_, _<_, _≤_};
-ghost use lib.ListN.{length, getD};
+ghost use mathlib.Core.Bool.{true};
+ghost use Prim.Native.Nat.{_+_, _*_, _<_, _≤_};
+ghost use lib.ListN.{length};
 ghost use Rattle.state.specs.Seq.{allB};
-ghost use Rattle.multi_cycle_list.specs.Nodes.{classes, entries, next, sizesB, linkedAt, trace, traceEnd, closes, wholeB};
-ghost use Rattle.multi_cycle_list.specs.Inner.{marks, unmarked, marksOf, placedBy, Within, Whole};
+ghost use Rattle.multi_cycle_list.specs.Nodes.{classes, entries, sizesB, wholeB};
+ghost use Rattle.multi_cycle_list.specs.Inner.{ahead, behind, trail, unmarked, marksOf, meetsAt, placedBy, Whole};
 
 fn sizes(s: &[u8]) -> bool
     ensures { λ r. ⌜ r ≡ sizesB (now (s .entry)) ⌝ }
@@ -26,93 +27,101 @@ fn sizes(s: &[u8]) -> bool
     s.len() == 2 + 2 * (c + e)
 }
 
-fn linked_at(s: &[u8], n: usize, i: usize) -> bool
+// The node after `i`; `n` where the link leads out of the `n` nodes or does not come back.
+fn ahead(s: &[u8], n: usize, i: usize) -> usize
     requires { ⌜ (i < n) × (length (now s) ≡ 2 + 2 * n) ⌝ }
-    ensures { λ r. ⌜ r ≡ linkedAt (now (s .entry)) n i ⌝ }
+    ensures { λ r. ⌜ r ≡ ahead (now (s .entry)) n i ⌝ }
 {
     let a = s[2 + 2 * i] as usize;
-    let b = s[3 + 2 * i] as usize;
     if n <= a {
-        return false;
+        return n;
     }
-    if n <= b {
-        return false;
-    }
-    let back = s[3 + 2 * a] as usize;
-    if back != i {
-        return false;
-    }
-    let forth = s[2 + 2 * b] as usize;
-    forth == i
-}
-
-fn links(s: &[u8], n: usize) -> bool
-    requires { ⌜ length (now s) ≡ 2 + 2 * n ⌝ }
-    ensures { λ r. ⌜ r ≡ allB n (linkedAt (now (s .entry)) n) ⌝ }
-{
-    let mut i = 0;
-    while i < n {
-        if linked_at(s, n, i) {} else {
-            return false;
-        }
-        i += 1;
-    }
-    true
-}
-
-// Follows next from `from`, up to a class or `fuel` steps: marks the nodes met with `mark`, and says where it ends.
-fn follow(
-    s: &[u8],
-    seen: &mut [u8],
-    n: usize,
-    c: usize,
-    fuel: usize,
-    from: usize,
-    mark: u8,
-) -> usize
-    requires { ⌜ (from < n) × ((length (now seen) ≡ 256) × Within (now s) n) ⌝ }
-    ensures { λ r. ⌜ (r ≡ traceEnd fuel c (now (s .entry)) from) × (now (seen .exit) ≡ marks mark (trace fuel c (now (s .entry)) from) (now (seen .entry))) ⌝ }
-{
-    let mut a = from;
-    let mut k = fuel;
-    while 0 < k {
-        if a < c {
-            return a;
-        }
-        seen[a] = mark;
-        a = s[2 + 2 * a] as usize;
-        k -= 1;
+    if s[3 + 2 * a] as usize != i {
+        return n;
     }
     a
 }
 
+// The node before `i`, or `n`.
+fn behind(s: &[u8], n: usize, i: usize) -> usize
+    requires { ⌜ (i < n) × (length (now s) ≡ 2 + 2 * n) ⌝ }
+    ensures { λ r. ⌜ r ≡ behind (now (s .entry)) n i ⌝ }
+{
+    let a = s[3 + 2 * i] as usize;
+    if n <= a {
+        return n;
+    }
+    if s[2 + 2 * a] as usize != i {
+        return n;
+    }
+    a
+}
+
+// Goes from the class `k` ahead and behind at once, through entries alone, until the two ends meet. Marks the entries' nodes.
+fn meets(s: &[u8], seen: &mut [u8], n: usize, c: usize, k: usize) -> bool
+    requires { ⌜ (k < c) × ((c ≤ 32) × ((c ≤ n) × ((n ≤ 256) × ((length (now s) ≡ 2 + 2 * n) × (length (now seen) ≡ 256))))) ⌝ }
+    ensures { λ r. ⌜ (r ≡ trail n n c (now (s .entry)) k k (k + 1) (now (seen .entry)) .met) × (now (seen .exit) ≡ trail n n c (now (s .entry)) k k (k + 1) (now (seen .entry)) .seen) ⌝ }
+{
+    let mark = (k + 1) as u8;
+    let mut front = k;
+    let mut back = k;
+    let mut left = n;
+    while 0 < left {
+        let a = ahead(s, n, front);
+        if a == back {
+            return true;
+        }
+        if a < c {
+            return false;
+        }
+        if n <= a {
+            return false;
+        }
+        seen[a] = mark;
+        let b = behind(s, n, back);
+        if b == a {
+            return true;
+        }
+        if b < c {
+            return false;
+        }
+        if n <= b {
+            return false;
+        }
+        seen[b] = mark;
+        front = a;
+        back = b;
+        left -= 1;
+    }
+    false
+}
+
 fn cycles(s: &[u8], seen: &mut [u8], n: usize) -> bool
-    requires { ⌜ (classes (now s) ≤ 32) × ((n ≡ classes (now s) + entries (now s)) × ((now seen ≡ unmarked) × Within (now s) n)) ⌝ }
-    ensures { λ r. ⌜ (r ≡ allB (classes (now (s .entry))) (closes (now (s .entry)))) × (now (seen .exit) ≡ marksOf (now (s .entry)) (classes (now (s .entry)))) ⌝ }
+    requires { ⌜ (classes (now s) ≤ 32) × ((n ≡ classes (now s) + entries (now s)) × ((n ≤ 256) × ((length (now s) ≡ 2 + 2 * n) × (now seen ≡ unmarked)))) ⌝ }
+    ensures { λ r. ⌜ (r ≡ allB (classes (now (s .entry))) (meetsAt (now (s .entry)))) × (r ≡ true → now (seen .exit) ≡ marksOf (now (s .entry)) (classes (now (s .entry)))) ⌝ }
 {
     let c = s[0] as usize;
-    let e = s[1] as usize;
-    let mut ok = true;
     let mut k: usize = 0;
     while k < c {
-        let first = s[2 + 2 * k] as usize;
-        let end = follow(s, seen, n, c, e, first, (k + 1) as u8);
-        if end != k {
-            ok = false;
+        if meets(s, seen, n, c, k) {} else {
+            return false;
         }
         k += 1;
     }
-    ok
+    true
 }
 
 fn is_placed(s: &[u8], seen: &[u8], x: usize) -> bool
-    requires { ⌜ (2 + 2 * x < length (now s)) × (x < length (now seen)) ⌝ }
+    requires { ⌜ (3 + 2 * x < length (now s)) × (x < length (now seen)) ⌝ }
     ensures { λ r. ⌜ r ≡ placedBy (now (s .entry)) (now (seen .entry)) x ⌝ }
 {
-    if s[2 + 2 * x] as usize == x {
+    if seen[x] != 0 {
         return true;
     }
-    seen[x] != 0
+    if s[2 + 2 * x] as usize != x {
+        return false;
+    }
+    s[3 + 2 * x] as usize == x
 }
 
 fn all_placed(s: &[u8], seen: &[u8], c: usize, e: usize) -> bool
@@ -140,9 +149,6 @@ pub fn whole_marked(s: &[u8], seen: &mut [u8]) -> bool
     let c = s[0] as usize;
     let e = s[1] as usize;
     let n = c + e;
-    if links(s, n) {} else {
-        return false;
-    }
     if cycles(s, seen, n) {} else {
         return false;
     }

@@ -12,7 +12,7 @@ use Rattle.state.proofs.Tests.{and-l, and-r}
 
 unfoldable kindOf : ℕ → Kind
 kindOf n =
-    cond (eqb n 780) Regular
+    cond (eqb n 1036) Regular
     (cond (eqb n 389) LoopBack
     (cond (eqb n 385) Requests
     (cond (eqb n 805) Messages
@@ -26,9 +26,9 @@ lists-most c e h =
     let b = leb-true e 224 (and-r (leb c 32) (leb e 224) r) in
     omega arith
 
-other : (n : ℕ) → n ≢ 780 → n ≢ 389 → n ≢ 385 → n ≢ 805 → n ≢ 677 → kindOf n ≡ cond (eqb (n % 4) 3) Keys Lists
+other : (n : ℕ) → n ≢ 1036 → n ≢ 389 → n ≢ 385 → n ≢ 805 → n ≢ 677 → kindOf n ≡ cond (eqb (n % 4) 3) Keys Lists
 unfolding kindOf
-other n a b c d e = rw (ne-eqb n 780 a, ne-eqb n 389 b, ne-eqb n 385 c, ne-eqb n 805 d, ne-eqb n 677 e)
+other n a b c d e = rw (ne-eqb n 1036 a, ne-eqb n 389 b, ne-eqb n 385 c, ne-eqb n 805 d, ne-eqb n 677 e)
 
 kind-of : (k : Kind) (n : ℕ) → Has k n → kindOf n ≡ k
 unfolding kindOf

@@ -3,3 +3,4 @@ pub mod Seq
 pub mod Numbers
 pub mod Disjoint
 pub mod Calls
+pub mod Filled

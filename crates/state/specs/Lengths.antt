@@ -20,7 +20,7 @@ keysLength kMax entries = 11 + 8 * entries + 4 * ((kMax + 1) / 4)
 
 -- the five registries
 abbrev pub regularLength : ℕ
-regularLength = 780
+regularLength = 1036
 
 abbrev pub loopBackLength : ℕ
 loopBackLength = 389

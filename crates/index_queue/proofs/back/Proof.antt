@@ -1,15 +1,13 @@
 use borrow.Author.Needs.{needs}
 use native.Mathlib.Omega.{arith}
-use Prim.Native.Nat.{ℕ, _+_, _-_, _*_}
-use mathlib.Core.Path.{_≡_, refl, sym, ap, _∙_, subst}
+use Prim.Native.Nat.{_+_, _-_, _*_}
+use mathlib.Core.Path.{sym, ap, _∙_}
 use Rattle.state.proofs.Tests.{byte-fits}
+use Rattle.multi_cycle_list.specs.Lists.{last}
+use Rattle.index_entries.specs.Bytes.{read, entries}
 use Rattle.index_entries.proofs.Facts.{facts-of}
-use Rattle.index_entries.specs.Bytes.{read}
-use Rattle.index_entries.specs.Keys.{holds, spent, free, slot, withSlot, withLists, changed}
-use Rattle.index_entries.specs.Bytes.{entries}
-use Rattle.multi_cycle_list.specs.Lists.{row, last}
 use Rattle.index_entries.proofs.Acts.{bytes-of, lent-whole}
-use Rattle.index_queue.specs.Calls.{back, keyAt}
+use Rattle.index_queue.specs.Calls.{back}
 use Rattle.index_queue.proofs.Calls.{lent-row, last-entry, unwhole, stays, back-is}
 use Rattle.index_queue.proofs.back.Statement.{statement}
 use Rattle.index_queue.proofs.back.Tie as tie
@@ -51,34 +49,19 @@ cast-key-at : tie.Need-cast-key-at
 cast-key-at c = search needs
 
 key-at-requires : tie.Need-key-at-requires
-key-at-requires c κs = ((sym (c .before .before .before .before .before .before .before .whole .ensures) ∙ c .before .before .before .before .before .before .if1 .taken), last-entry (c .before .before .before .before .before .before .before .before .before .args .s .now) (bytes-of (c .before .before .before .before .before .before .before .before .before .args .s .now) (c .before .before .before .before .before .before .before .before .shared-slice-known .given)) (sym (c .before .before .before .before .before .before .before .whole .ensures) ∙ c .before .before .before .before .before .before .if1 .taken) 0 _ (ap last (sym (lent-row (c .before .before .before .before .before .before .before .before .before .args .s .now) (sym (c .before .before .before .before .before .before .before .whole .ensures) ∙ c .before .before .before .before .before .before .if1 .taken) (8 + 2 * entries (c .before .before .before .before .before .before .before .before .before .args .s .now) - 2) (omega arith) 0)) ∙ sym (c .before .before .before .inner-back .ensures) ∙ c .before .f .given .1))
+key-at-requires c κs = let h = sym (c .before .before .before .before .before .before .before .whole .ensures) ∙ c .before .before .before .before .before .before .if1 .taken in
+    (h, last-entry (c .before .before .before .before .before .before .before .before .before .args .s .now) (bytes-of (c .before .before .before .before .before .before .before .before .before .args .s .now) (c .before .before .before .before .before .before .before .before .shared-slice-known .given)) h 0 _ (ap last (sym (lent-row (c .before .before .before .before .before .before .before .before .before .args .s .now) h (8 + 2 * entries (c .before .before .before .before .before .before .before .before .before .args .s .now) - 2) (omega arith) 0)) ∙ sym (c .before .before .before .inner-back .ensures) ∙ c .before .f .given .1))
 
 enum-told : tie.Need-enum-told
 enum-told c = search needs
 
-enum-told-2 : tie.Need-enum-told-2
-enum-told-2 c = search needs
-
-enum-told-3 : tie.Need-enum-told-3
-enum-told-3 c = search needs
-
-enum-told-4 : tie.Need-enum-told-4
-enum-told-4 c = search needs
-
 returns-2 : tie.Need-returns-2
-returns-2 c = c .key-at .ensures ∙ stays (c .before .before .before .before .before .before .before .before .before .before .args .s .now) (sym (c .before .before .before .before .before .before .before .before .whole .ensures) ∙ c .before .before .before .before .before .before .before .if1 .taken) (bytes-of (c .before .before .before .before .before .before .before .before .before .before .args .s .now) (c .before .before .before .before .before .before .before .before .before .shared-slice-known .given)) back _ (back-is (read (c .before .before .before .before .before .before .before .before .before .before .args .s .now)) _ (ap last (sym (lent-row (c .before .before .before .before .before .before .before .before .before .before .args .s .now) (sym (c .before .before .before .before .before .before .before .before .whole .ensures) ∙ c .before .before .before .before .before .before .before .if1 .taken) (8 + 2 * entries (c .before .before .before .before .before .before .before .before .before .before .args .s .now) - 2) (omega arith) 0)) ∙ sym (c .before .before .before .before .inner-back .ensures) ∙ c .before .before .f .given .1)) .0
+returns-2 c = let h = sym (c .before .before .before .before .before .before .before .before .whole .ensures) ∙ c .before .before .before .before .before .before .before .if1 .taken in
+    c .key-at .ensures ∙ stays (c .before .before .before .before .before .before .before .before .before .before .args .s .now) h (bytes-of (c .before .before .before .before .before .before .before .before .before .before .args .s .now) (c .before .before .before .before .before .before .before .before .before .shared-slice-known .given)) back _ (back-is (read (c .before .before .before .before .before .before .before .before .before .before .args .s .now)) _ (ap last (sym (lent-row (c .before .before .before .before .before .before .before .before .before .before .args .s .now) h (8 + 2 * entries (c .before .before .before .before .before .before .before .before .before .before .args .s .now) - 2) (omega arith) 0)) ∙ sym (c .before .before .before .before .inner-back .ensures) ∙ c .before .before .f .given .1)) .0
 
 returns-3 : tie.Need-returns-3
-returns-3 c = stays (c .before .before .before .before .before .before .before .before .args .s .now) (sym (c .before .before .before .before .before .before .whole .ensures) ∙ c .before .before .before .before .before .if1 .taken) (bytes-of (c .before .before .before .before .before .before .before .before .args .s .now) (c .before .before .before .before .before .before .before .shared-slice-known .given)) back _ (back-is (read (c .before .before .before .before .before .before .before .before .args .s .now)) _ (ap last (sym (lent-row (c .before .before .before .before .before .before .before .before .args .s .now) (sym (c .before .before .before .before .before .before .whole .ensures) ∙ c .before .before .before .before .before .if1 .taken) (8 + 2 * entries (c .before .before .before .before .before .before .before .before .args .s .now) - 2) (omega arith) 0)) ∙ sym (c .before .before .inner-back .ensures) ∙ c .enum-told .given .1)) .0
-
-returns-4 : tie.Need-returns-4
-returns-4 c = stays (c .before .before .before .before .before .before .before .before .args .s .now) (sym (c .before .before .before .before .before .before .whole .ensures) ∙ c .before .before .before .before .before .if1 .taken) (bytes-of (c .before .before .before .before .before .before .before .before .args .s .now) (c .before .before .before .before .before .before .before .shared-slice-known .given)) back _ (back-is (read (c .before .before .before .before .before .before .before .before .args .s .now)) _ (ap last (sym (lent-row (c .before .before .before .before .before .before .before .before .args .s .now) (sym (c .before .before .before .before .before .before .whole .ensures) ∙ c .before .before .before .before .before .if1 .taken) (8 + 2 * entries (c .before .before .before .before .before .before .before .before .args .s .now) - 2) (omega arith) 0)) ∙ sym (c .before .before .inner-back .ensures) ∙ c .enum-told2 .given .1)) .0
-
-returns-5 : tie.Need-returns-5
-returns-5 c = stays (c .before .before .before .before .before .before .before .before .args .s .now) (sym (c .before .before .before .before .before .before .whole .ensures) ∙ c .before .before .before .before .before .if1 .taken) (bytes-of (c .before .before .before .before .before .before .before .before .args .s .now) (c .before .before .before .before .before .before .before .shared-slice-known .given)) back _ (back-is (read (c .before .before .before .before .before .before .before .before .args .s .now)) _ (ap last (sym (lent-row (c .before .before .before .before .before .before .before .before .args .s .now) (sym (c .before .before .before .before .before .before .whole .ensures) ∙ c .before .before .before .before .before .if1 .taken) (8 + 2 * entries (c .before .before .before .before .before .before .before .before .args .s .now) - 2) (omega arith) 0)) ∙ sym (c .before .before .inner-back .ensures) ∙ c .enum-told3 .given .1)) .0
-
-returns-6 : tie.Need-returns-6
-returns-6 c = stays (c .before .before .before .before .before .before .before .before .args .s .now) (sym (c .before .before .before .before .before .before .whole .ensures) ∙ c .before .before .before .before .before .if1 .taken) (bytes-of (c .before .before .before .before .before .before .before .before .args .s .now) (c .before .before .before .before .before .before .before .shared-slice-known .given)) back _ (back-is (read (c .before .before .before .before .before .before .before .before .args .s .now)) _ (ap last (sym (lent-row (c .before .before .before .before .before .before .before .before .args .s .now) (sym (c .before .before .before .before .before .before .whole .ensures) ∙ c .before .before .before .before .before .if1 .taken) (8 + 2 * entries (c .before .before .before .before .before .before .before .before .args .s .now) - 2) (omega arith) 0)) ∙ sym (c .before .before .inner-back .ensures) ∙ c .enum-told4 .given .1)) .0
+returns-3 c = let h = sym (c .before .before .before .before .before .before .whole .ensures) ∙ c .before .before .before .before .before .if1 .taken in
+    stays (c .before .before .before .before .before .before .before .before .args .s .now) h (bytes-of (c .before .before .before .before .before .before .before .before .args .s .now) (c .before .before .before .before .before .before .before .shared-slice-known .given)) back _ (back-is (read (c .before .before .before .before .before .before .before .before .args .s .now)) _ (ap last (sym (lent-row (c .before .before .before .before .before .before .before .before .args .s .now) h (8 + 2 * entries (c .before .before .before .before .before .before .before .before .args .s .now) - 2) (omega arith) 0)) ∙ sym (c .before .before .inner-back .ensures) ∙ c .enum-told .given .1)) .0
 
 pub back-spec : {M : Type 1} → statement M
 back-spec =
@@ -98,11 +81,5 @@ back-spec =
     cast-key-at
     key-at-requires
     enum-told
-    enum-told-2
-    enum-told-3
-    enum-told-4
     returns-2
-    returns-3
-    returns-4
-    returns-5
-    returns-6)
+    returns-3)

@@ -1,13 +1,10 @@
 use borrow.Author.Needs.{needs}
-use Prim.Native.Nat.{ℕ, _+_, _*_, _-_, _<_, _≤_}
+use Prim.Native.Nat.{ℕ, _+_, _-_, _<_, _≤_}
 use native.Mathlib.Omega.{arith}
-use mathlib.Core.Path.{_≡_, refl, sym, ap, _∙_, subst}
-use mathlib.Core.Bool.{Bool, true, false, not}
+use mathlib.Core.Path.{_≡_, sym, _∙_}
+use mathlib.Core.Bool.{true}
 use borrow.Author.Count.{below-none, below-more}
-use borrow.Author.Tests.{not-true, not-false}
-use lib.ListN.{length, getD}
 use Rattle.state.proofs.Seq.{all-true, all-false}
-use Rattle.state.proofs.Tests.{byte-fits}
 use Rattle.multi_cycle_list.specs.Inner.{placedBy}
 use Rattle.multi_cycle_list.proofs.whole.all_placed.Statement.{statement}
 use Rattle.multi_cycle_list.proofs.whole.all_placed.Tie as tie

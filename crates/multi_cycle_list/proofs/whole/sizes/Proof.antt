@@ -2,9 +2,9 @@ use borrow.Author.Needs.{needs}
 use native.Mathlib.Omega.{arith}
 use Prim.Native.Nat.{_+_, _*_}
 use lib.ListN.{length}
-use mathlib.Core.Path.{refl, sym, ap}
-use mathlib.Core.Bool.{and-false, or-true}
-use borrow.Author.Tests.{lt-ltb, le-ltb, le-leb, lt-leb, eq-eqb, ne-eqb}
+use mathlib.Core.Path.{sym}
+use mathlib.Core.Bool.{and-false}
+use borrow.Author.Tests.{lt-leb, ne-eqb}
 use Rattle.state.proofs.Tests.{byte-fits}
 use Rattle.multi_cycle_list.proofs.WholeTools.{sizes-last}
 use Rattle.multi_cycle_list.specs.Nodes.{sizesB, classes, entries}

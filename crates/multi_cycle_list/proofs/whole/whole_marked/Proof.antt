@@ -1,15 +1,12 @@
 use borrow.Author.Needs.{needs}
 use native.Mathlib.Omega.{arith}
-use Prim.Native.Nat.{ℕ, _+_}
-use mathlib.Core.Path.{_≡_, refl, sym, ap, _∙_}
-use mathlib.Core.List.{List}
+use mathlib.Core.Path.{refl, sym, ap, _∙_}
 use lib.ListN.{length}
 use Rattle.state.proofs.Tests.{byte-fits}
-use Rattle.multi_cycle_list.specs.Nodes.{classes, entries}
-use Rattle.multi_cycle_list.proofs.WholeTools.{sizes-of, within-of, whole-no-sizes, whole-no-links, whole-no-cycles}
+use Rattle.multi_cycle_list.specs.Nodes.{classes}
+use Rattle.multi_cycle_list.proofs.WholeTools.{sizes-of, whole-no-sizes}
 use Rattle.multi_cycle_list.proofs.Marks.{length-marksOf}
-use Rattle.multi_cycle_list.proofs.Sound.{not-whole-marked, whole-marked}
-use borrow.Author.Needs.{needs}
+use Rattle.multi_cycle_list.proofs.Sound.{not-whole-marked, whole-no-cycles, whole-marked}
 use Rattle.multi_cycle_list.proofs.whole.whole_marked.Statement.{statement}
 use Rattle.multi_cycle_list.proofs.whole.whole_marked.Tie as tie
 
@@ -20,7 +17,7 @@ returns : tie.Need-returns
 returns c = not-whole-marked _ _ (whole-no-sizes _ (sym (c .before .sizes .ensures) ∙ c .if1 .left))
 
 shared-slice-read-c : tie.Need-shared-slice-read-c
-shared-slice-read-c c = omega (arith, sizes-of (c .before .before .before .before .before .args .s .now) (sym (c .before .before .sizes .ensures) ∙ c .before .if1 .taken) .sized)
+shared-slice-read-c c = let z = sizes-of (c .before .before .before .before .before .args .s .now) (sym (c .before .before .sizes .ensures) ∙ c .before .if1 .taken) in omega arith
 
 cast-c : tie.Need-cast-c
 cast-c c = byte-fits (c .shared-slice-known2 .given _)
@@ -34,32 +31,24 @@ cast-e c = byte-fits (c .shared-slice-known3 .given _)
 add-n : tie.Need-add-n
 add-n c = let z = sizes-of (c .before .before .before .before .before .before .args .s .now) (sym (c .before .before .before .sizes .ensures) ∙ c .before .before .if1 .taken) in omega arith
 
-links-requires : tie.Need-links-requires
-links-requires c κs = sizes-of (c .before .before .before .before .before .before .args .s .now) (sym (c .before .before .before .sizes .ensures) ∙ c .before .before .if1 .taken) .sized
-
-returns-2 : tie.Need-returns-2
-returns-2 c = not-whole-marked _ _ (whole-no-links _ (sym (c .before .links .ensures) ∙ c .if2 .left))
-
 cycles-requires : tie.Need-cycles-requires
-cycles-requires c κs = let h = sym (c .before .before .before .before .before .before .sizes .ensures) ∙ c .before .before .before .before .before .if1 .taken in
-    (sizes-of (c .before .before .before .before .before .before .before .before .before .args .s .now) h .most, (refl, (c .before .before .before .before .before .before .before .before .before .pre, within-of (c .before .before .before .before .before .before .before .before .before .args .s .now) h (sym (c .before .before .links .ensures) ∙ c .before .if2 .taken))))
+cycles-requires c κs = let z = sizes-of (c .before .before .before .before .before .before .before .args .s .now) (sym (c .before .before .before .before .sizes .ensures) ∙ c .before .before .before .if1 .taken) in (z .most, (refl, (omega arith, (z .sized, c .before .before .before .before .before .before .before .pre))))
 
 same-length : tie.Need-same-length
 same-length c = c .before .before .before .cycles .kept .1 .0
 
-returns-3 : tie.Need-returns-3
-returns-3 c = not-whole-marked _ _ (whole-no-cycles _ (sym (c .before .before .before .cycles .ensures .0) ∙ c .if3 .left))
+returns-2 : tie.Need-returns-2
+returns-2 c = not-whole-marked _ _ (whole-no-cycles (c .before .before .before .before .before .before .before .before .before .before .before .args .s .now) (sym (c .before .before .before .before .before .before .before .before .sizes .ensures) ∙ c .before .before .before .before .before .before .before .if1 .taken) (sym (c .before .before .before .cycles .ensures .0) ∙ c .if2 .left))
 
 all-placed-requires : tie.Need-all-placed-requires
-all-placed-requires c κs = let s = c .before .before .before .before .before .before .before .before .before .before .before .before .before .before .args .s .now in
-    let z = sizes-of s (sym (c .before .before .before .before .before .before .before .before .before .before .before .sizes .ensures) ∙ c .before .before .before .before .before .before .before .before .before .before .if1 .taken) in
-    (omega arith, (z .sized, ap length (c .before .before .before .before .cycles .ensures .1) ∙ length-marksOf s (classes s)))
+all-placed-requires c κs = let z = sizes-of (c .before .before .before .before .before .before .before .before .before .before .before .before .args .s .now) (sym (c .before .before .before .before .before .before .before .before .before .sizes .ensures) ∙ c .before .before .before .before .before .before .before .before .if1 .taken) in
+    (omega arith, (z .sized, ap length (c .before .before .before .before .cycles .ensures .1 (c .before .if2 .taken)) ∙ length-marksOf (c .before .before .before .before .before .before .before .before .before .before .before .before .args .s .now) (classes (c .before .before .before .before .before .before .before .before .before .before .before .before .args .s .now))))
 
 same-length-2 : tie.Need-same-length-2
 same-length-2 c = c .before .before .before .before .before .cycles .kept .1 .0
 
-returns-4 : tie.Need-returns-4
-returns-4 c = whole-marked (c .before .before .before .before .before .before .before .before .before .before .before .before .before .before .before .args .s .now) _ _ (sym (c .before .before .before .before .before .before .before .before .before .before .before .before .sizes .ensures) ∙ c .before .before .before .before .before .before .before .before .before .before .before .if1 .taken) (sym (c .before .before .before .before .before .before .before .before .links .ensures) ∙ c .before .before .before .before .before .before .before .if2 .taken) (sym (c .before .before .before .before .before .cycles .ensures .0) ∙ c .before .before .if3 .taken) (c .before .before .before .before .before .cycles .ensures .1) (c .all-placed .ensures)
+returns-3 : tie.Need-returns-3
+returns-3 c = whole-marked (c .before .before .before .before .before .before .before .before .before .before .before .before .before .args .s .now) _ _ (sym (c .before .before .before .before .before .before .before .before .before .before .sizes .ensures) ∙ c .before .before .before .before .before .before .before .before .before .if1 .taken) (sym (c .before .before .before .before .before .cycles .ensures .0) ∙ c .before .before .if2 .taken) (c .before .before .before .before .before .cycles .ensures .1 (c .before .before .if2 .taken)) (c .all-placed .ensures)
 
 pub whole-marked-spec : {M : Type 1} → statement M
 whole-marked-spec =
@@ -72,11 +61,9 @@ whole-marked-spec =
     shared-slice-read-e
     cast-e
     add-n
-    links-requires
-    returns-2
     cycles-requires
     same-length
-    returns-3
+    returns-2
     all-placed-requires
     same-length-2
-    returns-4)
+    returns-3)

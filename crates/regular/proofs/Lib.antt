@@ -1,0 +1,5 @@
+pub mod Parts
+pub mod Passing
+pub mod Testing
+pub mod Turns
+pub mod Grounds

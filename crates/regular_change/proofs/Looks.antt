@@ -1,0 +1,293 @@
+-- What whole bytes tell of their parts: places, marks and gaps.
+use Prim.Native.Nat.{ℕ, zero, suc, _+_, _-_, _<_, _≤_}
+use mathlib.Core.Path.{_≡_, refl, sym, ap, _∙_}
+use mathlib.Core.List.{List, [], _∷_, _++_}
+use mathlib.Core.Option as opt
+use mathlib.Core.Logic.{_≢_}
+use mathlib.Core.Bool.{Bool, true, false, cond, not, _&&_, _||_, and-false}
+use native.Mathlib.Omega.{arith}
+use native.Mathlib.Nat.{not-suc-le-zero}
+use lib.Dec.{eqb, leb, ltb}
+use lib.ListN.{length, getD, drop, length-append, drop-of-length-le}
+use lib.Seq.{drop-cons}
+use borrow.Author.Tests.{ltb-true, lt-ltb, le-ltb, le-leb, lt-leb, eq-eqb, ne-eqb}
+use Rattle.state.specs.Seq.{each}
+use Rattle.multi_cycle_list.specs.Lists as lists
+use Rattle.multi_cycle_list.specs.Lists.{first}
+use Rattle.multi_cycle_list.specs.declared.inner.MaybeEntry.the-variants.{Some}
+use Rattle.multi_cycle_list.specs.Nodes as nodes
+use Rattle.entry_tree.specs.Pairs.{Pair, pair, Place, bit, count, any, position, isEntry, hasEntry, without, placeOf}
+use Rattle.entry_tree.specs.Places as tree
+use Rattle.entry_tree.specs.Places.{size, entryAt, subjectAt, pairAt}
+use Rattle.entry_tree.specs.Inner.{removedAt}
+use Rattle.entry_tree.proofs.Lists.{none, place-rest}
+use Rattle.entry_tree.proofs.Reading.{read-length, read-at, read-any, read-place-subject, read-place-first, read-place-from}
+use Rattle.entry_tree.proofs.Changes.{range-at, removed-without}
+use Rattle.regular.specs.Registry.{queued}
+use Rattle.regular.specs.Steps.{newMark, nextOn}
+use Rattle.regular.specs.Bytes.{activePart, inactivePart, queuePart, read, wholeB, queueOf}
+use Rattle.regular.proofs.Grounds.{sizes-of, two-counts}
+use Rattle.regular.proofs.Parts as parts
+use Rattle.regular.proofs.Testing.{Conditions, conditions}
+use Rattle.regular_fair.proofs.Count.{same, diff, compareEq, eqb-self, any-true, any-false, true-any, count-append, few-entries}
+use Rattle.regular_fair.proofs.Queue.{count-first}
+use Rattle.regular_fair.proofs.Facts.{Facts, at-most}
+use Rattle.regular_fair.proofs.Reading as reading
+use Rattle.regular_change.specs.Inner.{fromAt, gapBefore, gapOf}
+use Rattle.regular_change.specs.declared.look.Gap.{Gap}
+use Rattle.regular_change.specs.declared.look.Gap.the-variants.{Same, Withdrawn, Marked, Last}
+
+-- ---- a pair that alone passes a test
+
+module _ (test : Pair → Bool) where
+  pub count-at : (l : List Pair) (i : ℕ) → i < length l → test (getD l i none) ≡ true → 0 < count test l
+  count-at [] i h q = absurd (not-suc-le-zero h)
+  count-at (p ∷ l) zero h q = rw q (omega arith)
+  count-at (p ∷ l) (suc i) h q = omega (arith, count-at l i (omega arith) q)
+
+  pub position-once : (l : List Pair) (i : ℕ) → i < length l → test (getD l i none) ≡ true → count test l ≤ 1 → position test l ≡ i
+  position-once [] i h q u = absurd (not-suc-le-zero h)
+  position-once (p ∷ l) zero h q u = ap (λ (b : Bool). cond b 0 (suc (position test l))) q
+  position-once (p ∷ l) (suc i) h q u = cases (test p) u (count-at l i (omega arith) q) (position-once l i (omega arith) q)
+    where
+      cases : (b : Bool) → bit b + count test l ≤ 1 → 0 < count test l → (count test l ≤ 1 → position test l ≡ i) → cond b 0 (suc (position test l)) ≡ suc i
+      cases true u n r = absurd (omega (arith, u, n))
+      cases false u n r = ap suc (r (omega (arith, u)))
+
+-- ---- a tree's places
+
+module _ (t : List ℕ) where
+  -- the code's test of a place that it found
+  pub found-is : (test : Pair → Bool) (i n : ℕ) → i ≡ position test (tree.read t) → n ≡ size t → ltb i n ≡ any test (tree.read t)
+  found-is test i n p q = rw (p, q) (sym (read-any test t))
+
+  pub place-in : (test : Pair → Bool) → any test (tree.read t) ≡ true → position test (tree.read t) < size t
+  place-in test h = ltb-true (position test (tree.read t)) (size t) (sym (read-any test t) ∙ h)
+
+  entry-passes : (i : ℕ) → i < size t → isEntry (entryAt t i) (getD (tree.read t) i none) ≡ true
+  entry-passes i h = ap (isEntry (entryAt t i)) (read-at t i h) ∙ eqb-self (entryAt t i)
+
+  pub entry-counts : (i : ℕ) → i < size t → 0 < count (isEntry (entryAt t i)) (tree.read t)
+  entry-counts i h = count-at (isEntry (entryAt t i)) (tree.read t) i (omega (arith, read-length t)) (entry-passes i h)
+
+  pub entry-place : (i : ℕ) → i < size t → count (isEntry (entryAt t i)) (tree.read t) ≤ 1 → i ≡ position (isEntry (entryAt t i)) (tree.read t)
+  entry-place i h u = sym (position-once (isEntry (entryAt t i)) (tree.read t) i (omega (arith, read-length t)) (entry-passes i h) u)
+
+  -- the pairs after a place
+  pub drop-next : (i j : ℕ) → j ≡ suc i → j < size t → drop (suc i) (tree.read t) ≡ pairAt t j ∷ drop (suc j) (tree.read t)
+  drop-next i j q h = ap (λ (k : ℕ). drop k (tree.read t)) (sym q) ∙ drop-cons (tree.read t) j none (omega (arith, read-length t)) ∙ ap (λ (p : Pair). p ∷ drop (suc j) (tree.read t)) (read-at t j h)
+
+  pub drop-end : (i : ℕ) → size t ≤ suc i → drop (suc i) (tree.read t) ≡ []
+  drop-end i h = drop-of-length-le (tree.read t) {i = suc i} (omega (arith, read-length t))
+
+  -- the first subject past the pair before a place
+  pub from-first : (i : ℕ) → i ≡ 0 → 0 ≡ fromAt t i
+  from-first i q = rw (eq-eqb i 0 q) refl
+
+  pub from-past : (i x : ℕ) → i ≢ 0 → x ≡ subjectAt t (i - 1) → x + 1 ≡ fromAt t i
+  from-past i x q r = rw (ne-eqb i 0 q) (omega arith)
+
+  -- the next entry
+  pub next-none : (i : ℕ) → size t ≤ suc i → opt.none ≡ nextOn (subjectAt t i) (drop (suc i) (tree.read t))
+  next-none i h = sym (ap (nextOn (subjectAt t i)) (drop-end i h))
+
+  module _ (i j : ℕ) (q : j ≡ suc i) (h : j < size t) (x y : ℕ) (a : x ≡ subjectAt t i) (b : y ≡ subjectAt t j) where
+    next-is : nextOn (subjectAt t i) (drop (suc i) (tree.read t)) ≡ cond (ltb x y) opt.none (opt.some (entryAt t j))
+    next-is = ap (nextOn (subjectAt t i)) (drop-next i j q h) ∙ rw (a, b) refl
+
+    pub next-head : x < y → opt.none ≡ nextOn (subjectAt t i) (drop (suc i) (tree.read t))
+    next-head l = sym (next-is ∙ rw (lt-ltb x y l) refl)
+
+    pub next-same : y ≤ x → (e : ℕ) → e ≡ entryAt t j → opt.some e ≡ nextOn (subjectAt t i) (drop (suc i) (tree.read t))
+    next-same l e r = ap opt.some r ∙ sym (next-is ∙ rw (le-ltb x y l) refl)
+
+-- ---- the place of an entry, in the bytes
+
+place-gap : (e : ℕ) (p : Place) (marks : List ℕ) (from x : ℕ) (l : List Pair) → p .from ≡ from → p .subject ≡ x → p .rest ≡ l → gapOf e p marks ≡ cond (leb from x) (gapBefore e x l marks) Same
+place-gap e p marks from x l a b c = rw (a, b, c) refl
+
+module _ (t : List ℕ) (e i : ℕ) (q : i ≡ position (isEntry e) (tree.read t)) (h : i < size t) where
+  pub place-from-at : placeOf e (tree.read t) .from ≡ fromAt t i
+  place-from-at = elim (compareEq i 0) [
+    | same z b ↦ rw b (read-place-first t e i q h z)
+    | diff z b ↦ rw b (read-place-from t e i q h (omega arith))
+  ]
+
+  pub place-rest-at : placeOf e (tree.read t) .rest ≡ drop (suc i) (tree.read t)
+  place-rest-at = place-rest e (tree.read t) i (sym q) (omega (arith, read-length t))
+
+  pub place-next : nextOn (placeOf e (tree.read t) .subject) (placeOf e (tree.read t) .rest) ≡ nextOn (subjectAt t i) (drop (suc i) (tree.read t))
+  place-next = rw (read-place-subject t e i q h, place-rest-at) refl
+
+  pub removed-is : count (isEntry e) (tree.read t) ≤ 1 → removedAt i (tree.read t) ≡ without e (tree.read t)
+  removed-is u = ap (λ (k : ℕ). removedAt k (tree.read t)) q ∙ removed-without e (tree.read t) u (omega (arith, read-length t))
+
+  gap-is : (marks : List ℕ) → gapOf e (placeOf e (tree.read t)) marks ≡ cond (leb (fromAt t i) (subjectAt t i)) (gapBefore e (subjectAt t i) (drop (suc i) (tree.read t)) marks) Same
+  gap-is marks = place-gap e (placeOf e (tree.read t)) marks (fromAt t i) (subjectAt t i) (drop (suc i) (tree.read t)) place-from-at (read-place-subject t e i q h) place-rest-at
+
+  module _ (marks : List ℕ) (x from : ℕ) (a : x ≡ subjectAt t i) (b : from ≡ fromAt t i) where
+    pub gap-same : x < from → Same ≡ gapOf e (placeOf e (tree.read t)) marks
+    gap-same l = sym (gap-is marks ∙ rw (← b, ← a, lt-leb from x l) refl)
+
+    pub gap-next : from ≤ x → (g : Gap) → g ≡ gapBefore e (subjectAt t i) (drop (suc i) (tree.read t)) marks → g ≡ gapOf e (placeOf e (tree.read t)) marks
+    gap-next l g r = r ∙ sym (gap-is marks ∙ rw (← b, ← a, le-leb from x l) refl)
+
+    pub gap-last : from ≤ x → size t ≤ suc i → Last ≡ gapOf e (placeOf e (tree.read t)) marks
+    gap-last l k = gap-next l Last (sym (ap (λ (r : List Pair). gapBefore e (subjectAt t i) r marks) (drop-end t i k)))
+
+-- ---- the gap before the next
+
+not-new : (a b c : Bool) → c ≡ true → ((a || b) && not c) ≡ false
+not-new a b c q = rw q (and-false (a || b))
+
+new-by-mark : (a b c : Bool) → a ≡ true → c ≡ false → ((a || b) && not c) ≡ true
+new-by-mark a b c p q = rw (p, q) refl
+
+new-by-gap : (a b c : Bool) → b ≡ true → c ≡ false → ((a || b) && not c) ≡ true
+new-by-gap true b c p q = rw q refl
+new-by-gap false b c p q = rw (p, q) refl
+
+none-new : (a b c : Bool) → a ≡ false → b ≡ false → ((a || b) && not c) ≡ false
+none-new a b c p q = rw (p, q) refl
+
+module _ (t marks : List ℕ) (i j : ℕ) (z : j ≡ suc i) (h : j < size t) (e q : ℕ) (here : e ≡ entryAt t i) (next : q ≡ entryAt t j) where
+  abbrev new : Bool → Gap
+  new b = cond b (Marked (entryAt t j)) Withdrawn
+
+  before-is : gapBefore (entryAt t i) (subjectAt t i) (drop (suc i) (tree.read t)) marks ≡ new (newMark (entryAt t i) (subjectAt t i) (pairAt t j) marks)
+  before-is = ap (λ (l : List Pair). gapBefore (entryAt t i) (subjectAt t i) l marks) (drop-next t i j z h)
+
+  queued-here : (b : Bool) → queued e marks ≡ b → queued (entryAt t i) marks ≡ b
+  queued-here b r = ap (λ (k : ℕ). queued k marks) (sym here) ∙ r
+
+  queued-next : (b : Bool) → queued q marks ≡ b → queued (entryAt t j) marks ≡ b
+  queued-next b r = ap (λ (k : ℕ). queued k marks) (sym next) ∙ r
+
+  pub next-marked : queued q marks ≡ true → Withdrawn ≡ gapBefore (entryAt t i) (subjectAt t i) (drop (suc i) (tree.read t)) marks
+  next-marked r = sym (before-is ∙ ap new (not-new (queued (entryAt t i) marks) (ltb (subjectAt t i) (subjectAt t j)) (queued (entryAt t j) marks) (queued-next true r)))
+
+  module _ (r : queued q marks ≡ false) where
+    pub here-marked : queued e marks ≡ true → Marked q ≡ gapBefore (entryAt t i) (subjectAt t i) (drop (suc i) (tree.read t)) marks
+    here-marked k = ap Marked next ∙ sym (before-is ∙ ap new (new-by-mark (queued (entryAt t i) marks) (ltb (subjectAt t i) (subjectAt t j)) (queued (entryAt t j) marks) (queued-here true k) (queued-next false r)))
+
+    pub gap-before : (x y : ℕ) → x ≡ subjectAt t i → y ≡ subjectAt t j → x < y → Marked q ≡ gapBefore (entryAt t i) (subjectAt t i) (drop (suc i) (tree.read t)) marks
+    gap-before x y a b l =
+        ap Marked next
+        ∙ sym (before-is ∙ ap new (new-by-gap (queued (entryAt t i) marks) (ltb (subjectAt t i) (subjectAt t j)) (queued (entryAt t j) marks) (lt-ltb (subjectAt t i) (subjectAt t j) (omega arith)) (queued-next false r)))
+
+    pub no-gap-before : queued e marks ≡ false → (x y : ℕ) → x ≡ subjectAt t i → y ≡ subjectAt t j → y ≤ x → Withdrawn ≡ gapBefore (entryAt t i) (subjectAt t i) (drop (suc i) (tree.read t)) marks
+    no-gap-before k x y a b l =
+        sym (before-is ∙ ap new (none-new (queued (entryAt t i) marks) (ltb (subjectAt t i) (subjectAt t j)) (queued (entryAt t j) marks) (queued-here false k) (le-ltb (subjectAt t i) (subjectAt t j) (omega arith))))
+
+-- ---- whole bytes
+
+pub record Known (s : List ℕ) : Type 0 where
+  pub long : length s ≡ 1036
+  pub active-long : length (activePart s) ≡ 385
+  pub active-few : size (activePart s) ≤ 128
+  pub inactive-long : length (inactivePart s) ≡ 385
+  pub inactive-few : size (inactivePart s) ≤ 128
+  pub queue-long : length (queuePart s) ≡ 262
+  pub queue-whole : nodes.wholeB (queuePart s) ≡ true
+  pub classes : nodes.classes (queuePart s) ≡ 2
+  pub entries : nodes.entries (queuePart s) ≡ 128
+  pub conditions : Conditions (read s)
+  pub facts : Facts (read s)
+
+pub known : (s : List ℕ) → wholeB s ≡ true → Known s
+known s w =
+    let p = reading.parts s w in
+    let z = sizes-of s (p .sizes) in
+    let j = parts.split s (p .bytes) in
+    record {
+      long = p .bytes;
+      active-long = j .long-a;
+      active-few = z .active;
+      inactive-long = j .long-i;
+      inactive-few = z .inactive;
+      queue-long = j .long-q;
+      queue-whole = p .queue;
+      classes = z .classes;
+      entries = z .entries;
+      conditions = conditions (read s) (p .means);
+      facts = reading.read-facts s w;
+    }
+
+-- the queue's bytes mean both queues
+pub queue-means : (s : List ℕ) → Known s → nodes.read (queuePart s) ≡ queueOf (read s)
+unfolding nodes.listsOf each
+queue-means s k = rw (k .classes, k .entries) refl
+
+front-counts : (e : ℕ) (q : List ℕ) → first q ≡ Some e → 0 < lists.count e q
+front-counts e [] h = absurd (let z : _≡_ {A = ℕ} 0 1 = cc in omega arith)
+front-counts e (x ∷ q) h = let r : x ≡ e = cc in rw (← r) (omega (arith, count-first x q))
+
+few-others : (e n : ℕ) (l k : List Pair) → e < n → count (isEntry e) l ≡ 0 → count (isEntry e) k ≡ 0 → ((x : ℕ) → count (isEntry x) l + count (isEntry x) k ≤ 1)
+    → ((x : ℕ) → 0 < count (isEntry x) l + count (isEntry x) k → x < n) → length l + length k < n
+few-others e n l k b u v once inside =
+    let both : (x : ℕ) → count (isEntry x) (l ++ k) ≡ count (isEntry x) l + count (isEntry x) k = λ x. count-append (isEntry x) l k in
+    omega (
+      arith,
+      length-append l k,
+      few-entries n (pair e 0 ∷ (l ++ k))
+          (λ x. elim (compareEq x e) [ same q t ↦ rw t (omega (arith, both x, rw (← q) at u, rw (← q) at v)) | diff d t ↦ rw t (omega (arith, both x, once x)) ])
+          (λ x i. elim (compareEq x e) [ same q t ↦ omega arith | diff d t ↦ inside x (omega (arith, both x, rw t at i)) ]),
+    )
+
+module _ (s : List ℕ) (w : wholeB s ≡ true) where
+  -- the active entry at a place
+  pub entry-at-place : (i : ℕ) → i < size (activePart s) → i ≡ position (isEntry (entryAt (activePart s) i)) (read s .active)
+  entry-at-place i h = entry-place (activePart s) i h (omega (arith, known s w .facts .once (entryAt (activePart s) i)))
+
+  pub entry-active : (i : ℕ) → i < size (activePart s) → hasEntry (entryAt (activePart s) i) (read s .active) ≡ true
+  entry-active i h = true-any (isEntry (entryAt (activePart s) i)) (read s .active) (entry-counts (activePart s) i h)
+
+  pub subject-in-range : (i : ℕ) → i < size (activePart s) → subjectAt (activePart s) i ≤ 8191
+  subject-in-range i h = omega (arith, ap (λ (p : Pair). p .subject) (read-at (activePart s) i h), range-at (read s .active) (known s w .conditions .range-a) i .1)
+
+  -- an active entry, and an inactive one
+  pub active-in-range : (e : ℕ) → hasEntry e (read s .active) ≡ true → e < 128
+  active-in-range e h = omega (arith, known s w .facts .entries e (omega (arith, any-true (isEntry e) (read s .active) h)))
+
+  pub inactive-in-range : (e : ℕ) → hasEntry e (read s .inactive) ≡ true → e < 128
+  inactive-in-range e h = omega (arith, known s w .facts .entries e (omega (arith, any-true (isEntry e) (read s .inactive) h)))
+
+  -- an active entry stands in no queue but the clean-up queue
+  pub active-linked : (e : ℕ) → hasEntry e (read s .active) ≡ true → lists.counts e (nodes.listsOf (queuePart s)) ≡ lists.count e (read s .cleanUp)
+  active-linked e h =
+      two-counts (queuePart s) e (known s w .classes)
+      ∙ omega (arith, any-true (isEntry e) (read s .active) h, known s w .facts .once e, known s w .facts .waits e)
+
+  -- each entry stands in the queue of its tree only
+  pub active-waits-not : (e : ℕ) → hasEntry e (read s .active) ≡ true → lists.count e (read s .activation) ≡ 0
+  active-waits-not e h = omega (arith, any-true (isEntry e) (read s .active) h, known s w .facts .once e, known s w .facts .waits e)
+
+  pub inactive-unmarked : (e : ℕ) → hasEntry e (read s .inactive) ≡ true → lists.count e (read s .cleanUp) ≡ 0
+  inactive-unmarked e h = omega (arith, any-true (isEntry e) (read s .inactive) h, known s w .facts .once e, known s w .facts .marked e)
+
+  pub absent-unmarked : (e : ℕ) → hasEntry e (read s .active) ≡ false → lists.count e (read s .cleanUp) ≡ 0
+  absent-unmarked e h = omega (arith, any-false (isEntry e) (read s .active) h, known s w .facts .marked e)
+
+  pub absent-waits-not : (e : ℕ) → hasEntry e (read s .inactive) ≡ false → lists.count e (read s .activation) ≡ 0
+  absent-waits-not e h = known s w .facts .waits e ∙ any-false (isEntry e) (read s .inactive) h
+
+  -- the fronts of the queues
+  pub front-active : (e : ℕ) → first (read s .cleanUp) ≡ Some e → hasEntry e (read s .active) ≡ true
+  front-active e h = true-any (isEntry e) (read s .active) (omega (arith, known s w .facts .marked e, front-counts e (read s .cleanUp) h))
+
+  pub front-inactive : (e : ℕ) → first (read s .activation) ≡ Some e → hasEntry e (read s .inactive) ≡ true
+  front-inactive e h = true-any (isEntry e) (read s .inactive) (omega (arith, known s w .facts .waits e, front-counts e (read s .activation) h))
+
+  -- the room in the trees
+  pub at-most-128 : size (inactivePart s) + size (activePart s) ≤ 128
+  at-most-128 = omega (arith, at-most (read s) (known s w .facts), read-length (inactivePart s), read-length (activePart s))
+
+  pub room-for : (e : ℕ) → e < 128 → hasEntry e (read s .inactive) ≡ false → hasEntry e (read s .active) ≡ false → size (inactivePart s) + size (activePart s) < 128
+  room-for e b h k =
+      omega (
+        arith,
+        read-length (inactivePart s),
+        read-length (activePart s),
+        few-others e 128 (read s .inactive) (read s .active) b (any-false (isEntry e) (read s .inactive) h) (any-false (isEntry e) (read s .active) k) (known s w .facts .once)
+            (λ x i. omega (arith, known s w .facts .entries x i)),
+      )

@@ -1,0 +1,14 @@
+pub mod Count
+pub mod Facts
+pub mod Queue
+pub mod Good
+pub mod Places
+pub mod Sound
+pub mod Inv
+pub mod Calls
+pub mod Poll
+pub mod Fair
+pub mod Demand
+pub mod Reading
+pub mod Round
+pub mod Mean

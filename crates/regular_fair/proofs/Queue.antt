@@ -1,0 +1,69 @@
+-- How often an entry stands in a queue after each change.
+use Prim.Native.Nat.{ℕ, suc, _+_, _≤_}
+use mathlib.Core.Path.{_≡_, refl, sym, ap, _∙_}
+use mathlib.Core.Logic.{_≢_}
+use mathlib.Core.List.{List, [], _∷_, _++_}
+use mathlib.Core.Bool.{Bool, true, false, cond}
+use native.Mathlib.Omega.{arith}
+use native.Mathlib.Decide.{ℕ-discrete}
+use Rattle.multi_cycle_list.specs.Lists.{count, without}
+use Rattle.multi_cycle_list.proofs.Lists.{without-same, without-other, count-same, count-other}
+use Rattle.entry_tree.specs.Pairs.{bit}
+
+pub count-gone : (e : ℕ) (l : List ℕ) → count e (without e l) ≡ 0
+unfolding count without
+count-gone e [] = refl
+count-gone e (x ∷ xs) =
+    elim (ℕ-discrete x e) [
+      | yes q ↦ ap (count e) (without-same e x xs q) ∙ count-gone e xs
+      | no q ↦ ap (count e) (without-other e x xs q) ∙ count-other e x (without e xs) q ∙ count-gone e xs
+    ]
+
+pub count-kept : (e x : ℕ) (l : List ℕ) → e ≢ x → count e (without x l) ≡ count e l
+unfolding count without
+count-kept e x [] n = refl
+count-kept e x (y ∷ ys) n =
+    elim (ℕ-discrete y x) [
+      | yes q ↦ ap (count e) (without-same x y ys q) ∙ count-kept e x ys n ∙ sym (count-other e y ys (λ z. n (sym z ∙ q)))
+      | no q ↦
+          ap (count e) (without-other x y ys q)
+          ∙ elim (ℕ-discrete y e) [
+            | yes p ↦ count-same e y (without x ys) p ∙ ap suc (count-kept e x ys n) ∙ sym (count-same e y ys p)
+            | no p ↦ count-other e y (without x ys) p ∙ count-kept e x ys n ∙ sym (count-other e y ys p)
+          ]
+    ]
+
+pub count-append : (e : ℕ) (a b : List ℕ) → count e (a ++ b) ≡ count e a + count e b
+unfolding count
+count-append e [] b = omega arith
+count-append e (x ∷ xs) b =
+    elim (ℕ-discrete x e) [
+      | yes q ↦ omega (arith, count-same e x (xs ++ b) q, count-same e x xs q, count-append e xs b)
+      | no q ↦ omega (arith, count-other e x (xs ++ b) q, count-other e x xs q, count-append e xs b)
+    ]
+
+pub count-first : (e : ℕ) (l : List ℕ) → count e (e ∷ l) ≡ suc (count e l)
+count-first e l = count-same e e l refl
+
+pub count-le : (e x : ℕ) (l : List ℕ) → count e l ≤ count e (x ∷ l)
+count-le e x l = elim (ℕ-discrete x e) [ yes q ↦ omega (arith, count-same e x l q) | no q ↦ omega (arith, count-other e x l q) ]
+
+pub count-nil : (e : ℕ) → count e [] ≡ 0
+unfolding count
+count-nil e = refl
+
+-- a number that joins at the back
+pub count-back : (x e : ℕ) (l : List ℕ) → x ≢ e → count x (l ++ (e ∷ [])) ≡ count x l
+count-back x e l n = omega (arith, count-append x l (e ∷ []), count-other x e [] (λ q. n (sym q)), count-nil x)
+
+pub count-joined : (e : ℕ) (l : List ℕ) → count e (l ++ (e ∷ [])) ≡ suc (count e l)
+count-joined e l = omega (arith, count-append e l (e ∷ []), count-first e [], count-nil e)
+
+-- a number that may join
+pub count-maybe-other : (x y : ℕ) (b : Bool) → x ≢ y → count x (cond b (y ∷ []) []) ≡ 0
+count-maybe-other x y true n = count-other x y [] (λ q. n (sym q)) ∙ count-nil x
+count-maybe-other x y false n = count-nil x
+
+pub count-maybe : (y : ℕ) (b : Bool) → count y (cond b (y ∷ []) []) ≡ bit b
+count-maybe y true = omega (arith, count-first y [], count-nil y)
+count-maybe y false = count-nil y

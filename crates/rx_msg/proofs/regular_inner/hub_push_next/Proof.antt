@@ -1,0 +1,105 @@
+use borrow.Author.Needs.{needs}
+use native.Mathlib.Omega.{arith}
+use mathlib.Core.Path.{refl, sym, ap, _∙_}
+use mathlib.Core.Option.{none, some}
+use Rattle.entry_tree.proofs.Reading.{bytes-of}
+use Rattle.regular.specs.Steps.{hubPushNext}
+use Rattle.regular_change.specs.Inner.{walkAt}
+use Rattle.rx_msg.proofs.Calls.{unwhole}
+use Rattle.regular_change.proofs.Looks.{known}
+use Rattle.rx_msg.proofs.Walking.{next-nowhere, pointed-place, next-pushed}
+use Rattle.rx_msg.proofs.regular_inner.hub_push_next.Statement.{statement}
+use Rattle.rx_msg.proofs.regular_inner.hub_push_next.Tie as tie
+
+whole-requires : tie.Need-whole-requires
+whole-requires c κs = search needs
+
+same-length : tie.Need-same-length
+same-length c = search needs
+
+returns : tie.Need-returns
+returns c = unwhole hubPushNext (c .before .before .before .before .args .s .now) (sym (c .before .whole .ensures) ∙ c .if1 .left)
+
+slice-read-e : tie.Need-slice-read-e
+slice-read-e c = omega (arith, known (c .before .before .before .before .before .args .s .now) (sym (c .before .before .whole .ensures) ∙ c .before .if1 .taken) .long)
+
+same-length-2 : tie.Need-same-length-2
+same-length-2 c = search needs
+
+returns-2 : tie.Need-returns-2
+returns-2 c = next-nowhere (c .before .before .before .before .before .before .args .s .now) (bytes-of (c .before .before .before .before .before .before .args .s .now) (c .before .before .before .before .before .slice-known .given)) (sym (c .before .before .before .whole .ensures) ∙ c .before .before .if1 .taken) _ refl (c .if2 .taken)
+
+sub-position : tie.Need-sub-position
+sub-position c = search needs
+
+part-position-start : tie.Need-part-position-start
+part-position-start c = search needs
+
+part-position-end : tie.Need-part-position-end
+part-position-end c = omega (arith, known (c .before .before .before .before .before .before .before .args .s .now) (sym (c .before .before .before .before .whole .ensures) ∙ c .before .before .before .if1 .taken) .long)
+
+position-requires : tie.Need-position-requires
+position-requires c κs = let k = known (c .before .before .before .before .before .before .before .before .args .s .now) (sym (c .before .before .before .before .before .whole .ensures) ∙ c .before .before .before .before .if1 .taken) in (k .active-long, k .active-few)
+
+sub-next-on : tie.Need-sub-next-on
+sub-next-on c = search needs
+
+part-next-on-start : tie.Need-part-next-on-start
+part-next-on-start c = search needs
+
+part-next-on-end : tie.Need-part-next-on-end
+part-next-on-end c = omega (arith, known (c .before .before .before .before .before .before .before .before .before .before .args .s .now) (sym (c .before .before .before .before .before .before .before .whole .ensures) ∙ c .before .before .before .before .before .before .if1 .taken) .long)
+
+next-on-requires : tie.Need-next-on-requires
+next-on-requires c κs = let k = known (c .before .before .before .before .before .before .before .before .before .before .before .args .s .now) (sym (c .before .before .before .before .before .before .before .before .whole .ensures) ∙ c .before .before .before .before .before .before .before .if1 .taken) in (k .active-long, (k .active-few, pointed-place (c .before .before .before .before .before .before .before .before .before .before .before .args .s .now) (bytes-of (c .before .before .before .before .before .before .before .before .before .before .before .args .s .now) (c .before .before .before .before .before .before .before .before .before .before .slice-known .given)) (sym (c .before .before .before .before .before .before .before .before .whole .ensures) ∙ c .before .before .before .before .before .before .before .if1 .taken) _ refl (c .before .before .before .before .before .if2 .left) _ (c .before .before .position .ensures)))
+
+enum-known-next : tie.Need-enum-known-next
+enum-known-next c = search needs
+
+set-walk-requires : tie.Need-set-walk-requires
+set-walk-requires c κs = known (c .before .before .before .before .before .before .before .before .before .before .before .before .before .before .before .before .args .s .now) (sym (c .before .before .before .before .before .before .before .before .before .before .before .before .before .whole .ensures) ∙ c .before .before .before .before .before .before .before .before .before .before .before .before .if1 .taken) .long
+
+enum-told : tie.Need-enum-told
+enum-told c = search needs
+
+set-walk-requires-2 : tie.Need-set-walk-requires-2
+set-walk-requires-2 c κs = known (c .before .before .before .before .before .before .before .before .before .before .before .before .before .before .before .args .s .now) (sym (c .before .before .before .before .before .before .before .before .before .before .before .before .whole .ensures) ∙ c .before .before .before .before .before .before .before .before .before .before .before .if1 .taken) .long
+
+same-length-3 : tie.Need-same-length-3
+same-length-3 c = search needs
+
+returns-3 : tie.Need-returns-3
+returns-3 c = next-pushed (c .before .before .before .before .before .before .before .before .before .before .before .before .before .before .before .before .before .before .before .args .s .now) (bytes-of (c .before .before .before .before .before .before .before .before .before .before .before .before .before .before .before .before .before .before .before .args .s .now) (c .before .before .before .before .before .before .before .before .before .before .before .before .before .before .before .before .before .before .slice-known .given)) (sym (c .before .before .before .before .before .before .before .before .before .before .before .before .before .before .before .before .whole .ensures) ∙ c .before .before .before .before .before .before .before .before .before .before .before .before .before .before .before .if1 .taken) _ refl (c .before .before .before .before .before .before .before .before .before .before .before .before .before .if2 .left) _ (c .before .before .before .before .before .before .before .before .before .before .position .ensures) (some (c .before .before .before .before .before .next .given .0 .0)) (ap walkAt (sym (c .before .before .before .before .before .next .given .1)) ∙ c .before .before .before .before .before .before .before .next-on .ensures) _ (c .before .before .set-walk .ensures)
+
+same-length-4 : tie.Need-same-length-4
+same-length-4 c = search needs
+
+returns-4 : tie.Need-returns-4
+returns-4 c = next-pushed (c .before .before .before .before .before .before .before .before .before .before .before .before .before .before .before .before .before .before .args .s .now) (bytes-of (c .before .before .before .before .before .before .before .before .before .before .before .before .before .before .before .before .before .before .args .s .now) (c .before .before .before .before .before .before .before .before .before .before .before .before .before .before .before .before .before .slice-known .given)) (sym (c .before .before .before .before .before .before .before .before .before .before .before .before .before .before .before .whole .ensures) ∙ c .before .before .before .before .before .before .before .before .before .before .before .before .before .before .if1 .taken) _ refl (c .before .before .before .before .before .before .before .before .before .before .before .before .if2 .left) _ (c .before .before .before .before .before .before .before .before .before .position .ensures) none (ap walkAt (sym (c .before .before .before .before .enum-told .given .1)) ∙ c .before .before .before .before .before .before .next-on .ensures) _ (c .before .before .set-walk2 .ensures)
+
+pub hub-push-next-spec : {M : Type 1} → statement M
+hub-push-next-spec =
+    tie.close
+    (tie.spec
+    whole-requires
+    same-length
+    returns
+    slice-read-e
+    same-length-2
+    returns-2
+    sub-position
+    part-position-start
+    part-position-end
+    position-requires
+    sub-next-on
+    part-next-on-start
+    part-next-on-end
+    next-on-requires
+    enum-known-next
+    set-walk-requires
+    enum-told
+    set-walk-requires-2
+    same-length-3
+    returns-3
+    same-length-4
+    returns-4)

@@ -1,0 +1,182 @@
+//! The regular registry's bytes, by docs/STATES.md: laid out from the Rust's fields, and read back.
+
+use crate::lists::{Cycles, lay_links, read_links};
+use crate::rng::Rng;
+use emcyphal::registry::probe::{Seen, State};
+
+pub const LENGTH: usize = 1036;
+pub const MOST_ENTRY: u32 = 127;
+const ENTRIES: usize = 128;
+const TREE: usize = 1 + 3 * ENTRIES;
+const QUEUE_AT: usize = 2 * TREE;
+const CLASSES: usize = 2;
+const SLOTS_AT: usize = QUEUE_AT + 2 + 2 * (CLASSES + ENTRIES);
+const FLAG_AT: usize = SLOTS_AT + 2;
+const WALK_AT: usize = FLAG_AT + 1;
+
+/// What an opening writes where nothing is said, and a removal into a place that is left.
+pub const UNUSED: u8 = 0;
+const LEFT: u8 = 255;
+const NO_WALK: u8 = 255;
+
+/// The state over the bytes before the call.
+pub fn lay(state: &State, over: &mut [u8]) {
+    lay_tree(&state.active, &mut over[..TREE]);
+    lay_tree(&state.inactive, &mut over[TREE..QUEUE_AT]);
+    let links = links(&[&state.clean_up, &state.activation]);
+    lay_links(CLASSES, &links, &mut over[QUEUE_AT..SLOTS_AT]);
+    over[SLOTS_AT..FLAG_AT].copy_from_slice(&(state.slots as u16).to_le_bytes());
+    over[FLAG_AT] = match (state.last_gap, over[FLAG_AT]) {
+        (false, _) => 0,
+        (true, before) => before.max(1),
+    };
+    over[WALK_AT] = match (state.walk, over[WALK_AT]) {
+        (Some(entry), _) => entry,
+        (None, before) if u32::from(before) > MOST_ENTRY => before,
+        (None, _) => NO_WALK,
+    };
+}
+
+fn lay_tree(pairs: &[Seen], over: &mut [u8]) {
+    let before = usize::from(over[0]);
+    over[0] = pairs.len() as u8;
+    for (i, place) in over[1..].chunks_exact_mut(3).enumerate() {
+        if let Some(pair) = pairs.get(i) {
+            let [low, high] = pair.subject.to_le_bytes();
+            place.copy_from_slice(&[pair.entry, low, high]);
+        } else if i < before {
+            place.fill(LEFT);
+        }
+    }
+}
+
+/// Next and prev of every node, of classes with these entries.
+fn links(lists: &[&[u8]; CLASSES]) -> Vec<(u8, u8)> {
+    let mut links: Vec<_> = (0..(CLASSES + ENTRIES) as u8)
+        .map(|node| (node, node))
+        .collect();
+    for (class, list) in lists.iter().enumerate() {
+        let mut last = class;
+        for node in list
+            .iter()
+            .map(|&entry| CLASSES + usize::from(entry))
+            .chain([class])
+        {
+            links[last].0 = node as u8;
+            links[node].1 = last as u8;
+            last = node;
+        }
+    }
+    links
+}
+
+/// What the bytes mean, and what is wrong with them. A head is the first of its subject, a mark a place in the clean-up queue.
+pub fn read(bytes: &[u8]) -> (State, String) {
+    let cycles = Cycles::walked(&read_links(&bytes[QUEUE_AT..SLOTS_AT]), CLASSES);
+    let mut faults = cycles.faults();
+    if bytes[QUEUE_AT..][..2] != [CLASSES as u8, ENTRIES as u8] {
+        faults += " FAULT the queue's sizes";
+    }
+    let mut linked = [false; ENTRIES];
+    for &entry in cycles.lists.iter().flatten() {
+        linked[usize::from(entry)] = true;
+    }
+    let mut tree = |bytes: &[u8], is_active: bool| {
+        if usize::from(bytes[0]) > ENTRIES {
+            faults += " FAULT a tree's size";
+        }
+        let mut above = None;
+        let mut pairs = Vec::new();
+        for place in bytes[1..].chunks_exact(3).take(bytes[0].into()) {
+            let subject = u16::from_le_bytes([place[1], place[2]]);
+            let is_head = is_active && above != Some(subject);
+            let is_linked = linked.get(usize::from(place[0])) == Some(&true);
+            pairs.push(Seen {
+                entry: place[0],
+                subject,
+                is_active,
+                is_head,
+                is_linked,
+            });
+            above = Some(subject);
+        }
+        pairs
+    };
+    let state = State {
+        active: tree(&bytes[..TREE], true),
+        inactive: tree(&bytes[TREE..QUEUE_AT], false),
+        clean_up: cycles.lists[0].clone(),
+        activation: cycles.lists[1].clone(),
+        last_gap: bytes[FLAG_AT] != 0,
+        slots: usize::from(u16::from_le_bytes([bytes[SLOTS_AT], bytes[SLOTS_AT + 1]])),
+        walk: Some(bytes[WALK_AT]).filter(|&entry| u32::from(entry) <= MOST_ENTRY),
+    };
+    (state, faults)
+}
+
+/// The state in words: entry:subject, then A for active, H for a head and Q for a place in a queue.
+pub fn words(state: &State) -> String {
+    let pairs = |pairs: &[Seen]| {
+        let each: Vec<_> = pairs.iter().map(pair_words).collect();
+        each.join(",")
+    };
+    format!(
+        "slots={} last_gap={} walk={:?} active=[{}] inactive=[{}] activation={:?} clean_up={:?}",
+        state.slots,
+        state.last_gap,
+        state.walk,
+        pairs(&state.active),
+        pairs(&state.inactive),
+        state.activation,
+        state.clean_up
+    )
+}
+
+fn pair_words(pair: &Seen) -> String {
+    let Seen {
+        entry,
+        subject,
+        is_active,
+        is_head,
+        is_linked,
+    } = *pair;
+    let mark = |is: bool, letter: &'static str| if is { letter } else { "." };
+    let marks = [
+        mark(is_active, "A"),
+        mark(is_head, "H"),
+        mark(is_linked, "Q"),
+    ];
+    format!("{entry}:{subject}:{}", marks.concat())
+}
+
+/// Other bytes of the same meaning.
+pub fn disguise(bytes: &mut [u8], rng: &mut Rng) {
+    for tree in bytes[..QUEUE_AT].chunks_exact_mut(TREE) {
+        let used = 1 + 3 * usize::from(tree[0]);
+        tree[used..].fill_with(|| rng.next() as u8);
+    }
+    if bytes[FLAG_AT] != 0 {
+        bytes[FLAG_AT] = 1 + rng.below(255) as u8;
+    }
+    if u32::from(bytes[WALK_AT]) > MOST_ENTRY {
+        bytes[WALK_AT] = 128 + rng.below(128) as u8;
+    }
+}
+
+/// The meaning in few bytes.
+pub fn told_by(state: &State) -> Vec<u8> {
+    let mut told = vec![state.last_gap.into(), state.walk.unwrap_or(NO_WALK)];
+    told.extend((state.slots as u16).to_le_bytes());
+    for tree in [&state.active, &state.inactive] {
+        told.push(tree.len() as u8);
+        for pair in tree {
+            let [low, high] = pair.subject.to_le_bytes();
+            told.extend([pair.entry, low, high]);
+        }
+    }
+    for queue in [&state.clean_up, &state.activation] {
+        told.push(queue.len() as u8);
+        told.extend(queue);
+    }
+    told
+}

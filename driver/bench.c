@@ -141,6 +141,17 @@ static void waiting_on_active(struct registry *registry, unsigned count)
     }
 }
 
+/* The same with half of them active on subjects of their own, and one waiting on each, the last subject first. */
+static void waiting_on_each(struct registry *registry, unsigned count)
+{
+    for (unsigned i = 0; i < count / 2; i++)
+        activate(registry, i, true, false);
+    for (unsigned i = count / 2; i < count; i++) {
+        tree_insert(&registry->inactive, nth_entry(i), nth_subject(count - 1 - i, true));
+        list_push_back(&registry->queues.list[ACTIVATION_CLASS], nth_entry(i));
+    }
+}
+
 static const struct {
     const char *name;
     void (*build)(struct registry *registry, unsigned count);
@@ -148,6 +159,7 @@ static const struct {
     {"all active", all_active},       {"all on one subject", all_on_one_subject},
     {"all waiting", all_waiting},     {"all marked", all_marked},
     {"half and half", half_and_half}, {"waiting on an active subject", waiting_on_active},
+    {"waiting on each of half", waiting_on_each},
 };
 
 enum { SHAPES = sizeof shapes / sizeof shapes[0] };

@@ -6,89 +6,92 @@ use mathlib.Core.Bool.{true}
 use native.Mathlib.Omega.{arith}
 use native.Mathlib.Decide.{ℕ-discrete, decLt}
 use lib.ListN.{length, getD, set, length-set}
-use lib.Seq.{getD-set-same}
+use lib.Seq.{getD-set-same, getD-set-other}
 use Rattle.state.specs.Result.{Bytes}
 use Rattle.entry_tree.specs.Pairs.{Pair, pair, inserted, inOrder}
 use Rattle.entry_tree.specs.Places.{treeLength, size, subjectAt, read, laid}
-use Rattle.entry_tree.specs.Inner.{Cell, cellAt, cellOf, setCell, Room, Closed, removedAt}
+use Rattle.entry_tree.specs.Inner.{cellAt, cellOf, setCell, Between, Forth, Back, removedAt}
 use Rattle.entry_tree.proofs.Lists.{none}
 use Rattle.entry_tree.proofs.Reading.{read-length, read-at}
 use Rattle.entry_tree.proofs.Changes.{order-at, inserted-length, inserted-at, Joined, removed-length, removed-before, removed-after}
-use Rattle.entry_tree.proofs.Cells.{set-length, set-number, set-other, set-same, number-cell}
+use Rattle.entry_tree.proofs.Cells.{cell-same, set-length, set-other, set-same, number-cell}
 use Rattle.entry_tree.proofs.Laid.{has-one, laid-has, freed, cell-pair}
-
-subject-cell : (t u : List ℕ) (i : ℕ) → cellAt u i ≡ cellAt t i → subjectAt u i ≡ subjectAt t i
-subject-cell t u i q =
-    let a : getD u (2 + 3 * i) 0 ≡ getD t (2 + 3 * i) 0 = ap (λ (c : Cell). c .low) q in
-    let b : getD u (3 + 3 * i) 0 ≡ getD t (3 + 3 * i) 0 = ap (λ (c : Cell). c .high) q in
-    omega arith
 
 -- a pair of the list, as its place's bytes
 at-read : (t : List ℕ) → Bytes t → (i : ℕ) → i < size t → (p : Pair) → p ≡ getD (read t) i none → cellAt t i ≡ cellOf p
 at-read t y i h p q = cell-pair t y i ∙ ap cellOf (sym (read-at t i h) ∙ sym q)
 
+-- ---- where a pair belongs
+
+module _ (t : List ℕ) (x : ℕ) where
+  pub between-all : (n : ℕ) → n ≡ size t → Between t x 0 n
+  between-all n q = record { order = omega arith; most = omega arith; below = λ h. absurd (omega arith); above = λ h. absurd (omega arith) }
+
+  module _ (low high : ℕ) (h : Between t x low high) (mid : ℕ) (a : low ≤ mid) (b : mid < high) (s : ℕ) (q : s ≡ subjectAt t mid) where
+    pub between-up : s ≤ x → Between t x (mid + 1) high
+    between-up g =
+        let z : mid + 1 - 1 ≡ mid = omega arith in
+        record { order = omega arith; most = h .most; below = λ p. subst (λ (k : ℕ). subjectAt t k ≤ x) (sym z) (omega arith); above = h .above }
+
+    pub between-down : x < s → Between t x low mid
+    between-down g = record { order = a; most = omega (arith, h .most); below = h .below; above = λ p. omega arith }
+
 -- ---- making room
 
-pub room-none : (t : List ℕ) (x n : ℕ) → n ≡ size t → Room t t x n
-room-none t x n q =
+pub forth-none : (t : List ℕ) (e : ℕ) → Forth t t e e
+forth-none t e = record { len = refl; before = λ j h. refl; moved = λ j h g. absurd (omega arith); after = λ j h. refl }
+
+pub forth-more : (t u : List ℕ) (m e : ℕ) → Forth t u m e → (k : ℕ) → k + 1 ≡ m → m ≤ e → e + 3 ≤ length t → Forth t (set u (k + 3) (getD u k 0)) k e
+forth-more t u m e h k q b f =
+    let v = getD u k 0 in
     record {
-      most = omega arith;
-      len = refl;
-      number = refl;
-      before = λ k h. refl;
-      moved = λ k h g. absurd (omega arith);
-      after = λ k h. refl;
-      past = λ k h g. absurd (omega arith);
+      len = length-set u (k + 3) v ∙ h .len;
+      before = λ j a. getD-set-other u (k + 3) j v 0 (omega arith) ∙ h .before j (omega arith);
+      moved = λ j a c.
+          elim (ℕ-discrete j k) [
+            | yes z ↦ subst (λ (j : ℕ). getD (set u (k + 3) v) (j + 3) 0 ≡ getD t j 0) (sym z) (getD-set-same u (k + 3) v 0 (omega (arith, h .len)) ∙ h .before k (omega arith))
+            | no z ↦ getD-set-other u (k + 3) (j + 3) v 0 (omega arith) ∙ h .moved j (omega arith) c
+          ];
+      after = λ j a. getD-set-other u (k + 3) j v 0 (omega arith) ∙ h .after j a;
     }
 
-module _ (t : List ℕ) (len : length t ≡ treeLength) (few : size t < 128) (x i : ℕ) (u : List ℕ) (h : Room t u x i) (some : 0 < i) where
-  -- the subject just before
-  pub room-subject : (s : ℕ) → s ≡ subjectAt u (i - 1) → s ≡ subjectAt t (i - 1)
-  room-subject s q = q ∙ subject-cell t u (i - 1) (h .before (i - 1) (omega arith))
+pub forth-end : (t u : List ℕ) (k m : ℕ) → Forth t u k m → (i : ℕ) → k ≡ 1 + 3 * i → m ≡ 1 + 3 * size t → Forth t u (1 + 3 * i) (1 + 3 * size t)
+forth-end t u k m h i p q = subst (λ (k : ℕ). Forth t u k (1 + 3 * size t)) p (subst (λ (m : ℕ). Forth t u k m) q h)
 
-  pub room-more : (s : ℕ) → s ≡ subjectAt u (i - 1) → x < s → (v : List ℕ) → v ≡ setCell u i (cellAt u (i - 1)) → Room t v x (i - 1)
-  room-more s q g v e =
-      let j = i - 1 in
-      let c = cellAt u j in
-      let lu : length u ≡ treeLength = h .len ∙ len in
-      let s1 : suc j ≡ i = omega arith in
-      subst (λ (v : List ℕ). Room t v x j) (sym e)
-      (record {
-        most = omega (arith, h .most);
-        len = set-length u i c ∙ h .len;
-        number = set-number u i c ∙ h .number;
-        before = λ k a. set-other u i c k (omega arith) ∙ h .before k (omega arith);
-        moved = λ k a b.
-            elim (ℕ-discrete k j) [
-              | yes z ↦ subst (λ (k : ℕ). cellAt (setCell u i c) (suc k) ≡ cellAt t k) (sym z)
-                  (ap (cellAt (setCell u i c)) s1 ∙ set-same u i c lu (omega (arith, h .most)) ∙ h .before j (omega arith))
-              | no z ↦ set-other u i c (suc k) (omega arith) ∙ h .moved k (omega arith) b
-            ];
-        after = λ k a. set-other u i c k (omega (arith, h .most)) ∙ h .after k a;
-        past = λ k a b.
-            elim (ℕ-discrete k j) [
-              | yes z ↦ subst (λ (k : ℕ). x < subjectAt t k) (sym z) (omega (arith, room-subject s q))
-              | no z ↦ h .past k (omega arith) b
-            ];
-      })
+module _ (t u : List ℕ) (r : ℕ) (h : Forth t u (1 + 3 * r) (1 + 3 * size t)) where
+  forth-before : (k : ℕ) → k < r → cellAt u k ≡ cellAt t k
+  forth-before k b = cell-same (cellAt u k) (cellAt t k) (h .before (1 + 3 * k) (omega arith)) (h .before (2 + 3 * k) (omega arith)) (h .before (3 + 3 * k) (omega arith))
+
+  forth-moved : (k : ℕ) → r ≤ k → k < size t → cellAt u (suc k) ≡ cellAt t k
+  forth-moved k a b =
+      let q1 : 1 + 3 * suc k ≡ 1 + 3 * k + 3 = omega arith in
+      let q2 : 2 + 3 * suc k ≡ 2 + 3 * k + 3 = omega arith in
+      let q3 : 3 + 3 * suc k ≡ 3 + 3 * k + 3 = omega arith in
+      cell-same (cellAt u (suc k)) (cellAt t k)
+      (ap (λ (j : ℕ). getD u j 0) q1 ∙ h .moved (1 + 3 * k) (omega arith) (omega arith))
+      (ap (λ (j : ℕ). getD u j 0) q2 ∙ h .moved (2 + 3 * k) (omega arith) (omega arith))
+      (ap (λ (j : ℕ). getD u j 0) q3 ∙ h .moved (3 + 3 * k) (omega arith) (omega arith))
+
+  forth-after : (k : ℕ) → size t < k → cellAt u k ≡ cellAt t k
+  forth-after k b = cell-same (cellAt u k) (cellAt t k) (h .after (1 + 3 * k) (omega arith)) (h .after (2 + 3 * k) (omega arith)) (h .after (3 + 3 * k) (omega arith))
 
 module _ (t : List ℕ) (y : Bytes t) (len : length t ≡ treeLength) (few : size t < 128) (order : inOrder 0 (read t) ≡ true)
-    (e x r : ℕ) (u : List ℕ) (h : Room t u x r) (low : 0 < r → subjectAt t (r - 1) ≤ x)
+    (e x r : ℕ) (m : Between t x r r) (u : List ℕ) (h : Forth t u (1 + 3 * r) (1 + 3 * size t))
   where
     joined : Joined (pair e x) (read t) (inserted (pair e x) (read t)) r
     joined =
-        inserted-at (pair e x) (read t) r (omega (arith, h .most, read-length t))
+        inserted-at (pair e x) (read t) r (omega (arith, m .most, read-length t))
         (λ i a.
-        let b : r - 1 < size t = omega (arith, h .most) in
+        let b : r - 1 < size t = omega (arith, m .most) in
         let z : getD (read t) (r - 1) none .subject ≡ subjectAt t (r - 1) = ap (λ (p : Pair). p .subject) (read-at t (r - 1) b) in
-        omega (arith, low (omega arith), order-at 0 (read t) order i (r - 1) (omega arith) (omega (arith, read-length t))))
+        omega (arith, m .below (omega arith), order-at 0 (read t) order i (r - 1) (omega arith) (omega (arith, read-length t))))
         (λ a.
         let b : r < size t = omega (arith, read-length t) in
         let z : getD (read t) r none .subject ≡ subjectAt t r = ap (λ (p : Pair). p .subject) (read-at t r b) in
-        omega (arith, h .past r (omega arith) b))
+        omega (arith, m .above b))
 
-    pub room-laid : (n : ℕ) → n ≡ size t + 1 → (v : List ℕ) → v ≡ setCell u r (cellOf (pair e x)) → set v 0 n ≡ laid (inserted (pair e x) (read t)) t
-    room-laid n nq v vq =
+    pub forth-laid : (n : ℕ) → n ≡ size t + 1 → (v : List ℕ) → v ≡ setCell u r (cellOf (pair e x)) → set v 0 n ≡ laid (inserted (pair e x) (read t)) t
+    forth-laid n nq v vq =
         let p = pair e x in
         let k = inserted p (read t) in
         let c = cellOf p in
@@ -104,49 +107,66 @@ module _ (t : List ℕ) (y : Bytes t) (len : length t ≡ treeLength) (few : siz
           held = λ i a.
               number-cell w n i
               ∙ elim (decLt i r) [
-                | yes q ↦ set-other u r c i (omega arith) ∙ h .before i q ∙ at-read t y i (omega (arith, h .most)) (getD k i none) (g .before i q)
+                | yes q ↦ set-other u r c i (omega arith) ∙ forth-before t u r h i q ∙ at-read t y i (omega (arith, m .most)) (getD k i none) (g .before i q)
                 | no q ↦ elim (ℕ-discrete i r) [
-                  | yes z ↦ ap (cellAt w) z ∙ set-same u r c (h .len ∙ len) (omega (arith, h .most)) ∙ ap cellOf (sym (g .here) ∙ ap (λ (j : ℕ). getD k j none) (sym z))
+                  | yes z ↦ ap (cellAt w) z ∙ set-same u r c (h .len ∙ len) (omega (arith, m .most)) ∙ ap cellOf (sym (g .here) ∙ ap (λ (j : ℕ). getD k j none) (sym z))
                   | no z ↦
                       let j = i - 1 in
                       let s1 : i ≡ suc j = omega arith in
                       let b : j < size t = omega arith in
                       set-other u r c i z
                       ∙ ap (cellAt u) s1
-                      ∙ h .moved j (omega arith) b
+                      ∙ forth-moved t u r h j (omega arith) b
                       ∙ at-read t y j b (getD k i none) (ap (λ (j : ℕ). getD k j none) s1 ∙ g .after j (omega arith))
                 ]
               ];
           left = λ i a b. absurd (omega arith);
-          rest = λ i a b. number-cell w n i ∙ set-other u r c i (omega (arith, h .most)) ∙ h .after i (omega arith);
+          rest = λ i a b. number-cell w n i ∙ set-other u r c i (omega (arith, m .most)) ∙ forth-after t u r h i (omega arith);
         })
         (laid-has k t len (omega arith))
 
 -- ---- closing up
 
-pub closed-none : (t : List ℕ) (i k : ℕ) → k ≡ i → Closed t t i k
-closed-none t i k q = record { len = refl; number = refl; before = λ j h. refl; moved = λ j h g. absurd (omega arith); after = λ j h. refl }
+pub back-none : (t : List ℕ) (a : ℕ) → Back t t a a
+back-none t a = record { len = refl; before = λ j h. refl; moved = λ j h g. absurd (omega arith); after = λ j h. refl }
 
-pub closed-more : (t : List ℕ) → length t ≡ treeLength → (i k : ℕ) → i ≤ k → k < 128 → (u : List ℕ) → Closed t u i k → (v : List ℕ) → v ≡ setCell u k (cellAt u (k + 1)) → Closed t v i (k + 1)
-closed-more t len i k ik fit u h v e =
-    let c = cellAt u (k + 1) in
-    let s1 : k + 1 ≡ suc k = omega arith in
-    subst (λ (v : List ℕ). Closed t v i (k + 1)) (sym e)
-    (record {
-      len = set-length u k c ∙ h .len;
-      number = set-number u k c ∙ h .number;
-      before = λ j a. set-other u k c j (omega arith) ∙ h .before j a;
-      moved = λ j a b.
+pub back-more : (t u : List ℕ) (a k : ℕ) → Back t u a k → a ≤ k → k < length t → Back t (set u k (getD u (k + 3) 0)) a (k + 1)
+back-more t u a k h b f =
+    let v = getD u (k + 3) 0 in
+    record {
+      len = length-set u k v ∙ h .len;
+      before = λ j c. getD-set-other u k j v 0 (omega arith) ∙ h .before j c;
+      moved = λ j c d.
           elim (ℕ-discrete j k) [
-            | yes z ↦ subst (λ (j : ℕ). cellAt (setCell u k c) j ≡ cellAt t (suc j)) (sym z) (set-same u k c (h .len ∙ len) fit ∙ h .after (k + 1) (omega arith) ∙ ap (cellAt t) s1)
-            | no z ↦ set-other u k c j z ∙ h .moved j a (omega arith)
+            | yes z ↦ subst (λ (j : ℕ). getD (set u k v) j 0 ≡ getD t (j + 3) 0) (sym z) (getD-set-same u k v 0 (omega (arith, h .len)) ∙ h .after (k + 3) (omega arith))
+            | no z ↦ getD-set-other u k j v 0 z ∙ h .moved j c (omega arith)
           ];
-      after = λ j a. set-other u k c j (omega arith) ∙ h .after j (omega arith);
-    })
+      after = λ j c. getD-set-other u k j v 0 (omega arith) ∙ h .after j (omega arith);
+    }
 
-pub closed-laid : (t : List ℕ) → Bytes t → length t ≡ treeLength → size t ≤ 128 → (i : ℕ) → i < size t → (n : ℕ) → n ≡ size t - 1 → (u : List ℕ) → Closed t u i (size t - 1) → (v : List ℕ) → v ≡ setCell u n freed
+pub back-end : (t u : List ℕ) (a k : ℕ) → Back t u a k → (e : ℕ) → k ≡ e → Back t u a e
+back-end t u a k h e q = subst (λ (k : ℕ). Back t u a k) q h
+
+module _ (t u : List ℕ) (i n : ℕ) (h : Back t u (1 + 3 * i) (3 * n - 2)) where
+  back-before : (k : ℕ) → k < i → cellAt u k ≡ cellAt t k
+  back-before k b = cell-same (cellAt u k) (cellAt t k) (h .before (1 + 3 * k) (omega arith)) (h .before (2 + 3 * k) (omega arith)) (h .before (3 + 3 * k) (omega arith))
+
+  back-moved : (k : ℕ) → i ≤ k → suc k < n → cellAt u k ≡ cellAt t (suc k)
+  back-moved k a b =
+      let q1 : 1 + 3 * k + 3 ≡ 1 + 3 * suc k = omega arith in
+      let q2 : 2 + 3 * k + 3 ≡ 2 + 3 * suc k = omega arith in
+      let q3 : 3 + 3 * k + 3 ≡ 3 + 3 * suc k = omega arith in
+      cell-same (cellAt u k) (cellAt t (suc k))
+      (h .moved (1 + 3 * k) (omega arith) (omega arith) ∙ ap (λ (j : ℕ). getD t j 0) q1)
+      (h .moved (2 + 3 * k) (omega arith) (omega arith) ∙ ap (λ (j : ℕ). getD t j 0) q2)
+      (h .moved (3 + 3 * k) (omega arith) (omega arith) ∙ ap (λ (j : ℕ). getD t j 0) q3)
+
+  back-after : (k : ℕ) → n ≤ suc k → cellAt u k ≡ cellAt t k
+  back-after k b = cell-same (cellAt u k) (cellAt t k) (h .after (1 + 3 * k) (omega arith)) (h .after (2 + 3 * k) (omega arith)) (h .after (3 + 3 * k) (omega arith))
+
+pub back-laid : (t : List ℕ) → Bytes t → length t ≡ treeLength → size t ≤ 128 → (i : ℕ) → i < size t → (n : ℕ) → n ≡ size t - 1 → (u : List ℕ) → Back t u (1 + 3 * i) (3 * size t - 2) → (v : List ℕ) → v ≡ setCell u n freed
     → set v 0 n ≡ laid (removedAt i (read t)) t
-closed-laid t y len few i hi n nq u h v vq =
+back-laid t y len few i hi n nq u h v vq =
     let k = removedAt i (read t) in
     let w = setCell u n freed in
     let lk : suc (length k) ≡ size t = removed-length i (read t) (omega (arith, read-length t)) ∙ read-length t in
@@ -160,12 +180,12 @@ closed-laid t y len few i hi n nq u h v vq =
           number-cell w n j
           ∙ set-other u n freed j (omega arith)
           ∙ elim (decLt j i) [
-            | yes q ↦ h .before j q ∙ at-read t y j (omega arith) (getD k j none) (removed-before i (read t) j q)
-            | no q ↦ h .moved j (omega arith) (omega arith) ∙ at-read t y (suc j) (omega arith) (getD k j none) (removed-after i (read t) j (omega arith))
+            | yes q ↦ back-before t u i (size t) h j q ∙ at-read t y j (omega arith) (getD k j none) (removed-before i (read t) j q)
+            | no q ↦ back-moved t u i (size t) h j (omega arith) (omega arith) ∙ at-read t y (suc j) (omega arith) (getD k j none) (removed-after i (read t) j (omega arith))
           ];
       left = λ j a b.
           let z : j ≡ n = omega arith in
           number-cell w n j ∙ ap (cellAt w) z ∙ set-same u n freed (h .len ∙ len) (omega arith);
-      rest = λ j a b. number-cell w n j ∙ set-other u n freed j (omega arith) ∙ h .after j (omega arith);
+      rest = λ j a b. number-cell w n j ∙ set-other u n freed j (omega arith) ∙ back-after t u i (size t) h j (omega arith);
     })
     (laid-has k t len (omega arith))

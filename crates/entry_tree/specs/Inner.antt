@@ -1,5 +1,5 @@
--- Inner: a place's three bytes, what the code's stores do to them, and what its loops leave.
-use Prim.Native.Nat.{ℕ, zero, suc, _+_, _*_, _/_, _%_, _<_, _≤_}
+-- Inner: a place's three bytes, what the code's stores do to them, and what its loops keep.
+use Prim.Native.Nat.{ℕ, zero, suc, _+_, _-_, _*_, _/_, _%_, _<_, _≤_}
 use mathlib.Core.Path.{_≡_}
 use mathlib.Core.List.{List, [], _∷_}
 use lib.ListN.{length, getD, set}
@@ -26,20 +26,23 @@ cellOf p = record { entry = p .entry; low = p .subject % 256; high = p .subject 
 abbrev pub setCell : List ℕ → ℕ → Cell → List ℕ
 setCell t i c = set (set (set t (1 + 3 * i) (c .entry)) (2 + 3 * i) (c .low)) (3 + 3 * i) (c .high)
 
--- the places of t from r on stand one further in u; they are on subjects past x
-pub record Room (t u : List ℕ) (x r : ℕ) : Type 0 where
-  pub most : r ≤ size t
-  pub len : length u ≡ length t
-  pub number : size u ≡ size t
-  pub before : (k : ℕ) → k < r → cellAt u k ≡ cellAt t k
-  pub moved : (k : ℕ) → r ≤ k → k < size t → cellAt u (suc k) ≡ cellAt t k
-  pub after : (k : ℕ) → size t < k → cellAt u k ≡ cellAt t k
-  pub past : (k : ℕ) → r ≤ k → k < size t → x < subjectAt t k
+-- the pair before `low` is up to the subject x, the pair at `high` is past it
+pub record Between (t : List ℕ) (x low high : ℕ) : Type 0 where
+  pub order : low ≤ high
+  pub most : high ≤ size t
+  pub below : 0 < low → subjectAt t (low - 1) ≤ x
+  pub above : high < size t → x < subjectAt t high
 
--- the places of t from i + 1 to k stand one before in u
-pub record Closed (t u : List ℕ) (i k : ℕ) : Type 0 where
+-- the bytes of t from a to e stand one place, three bytes, further in u
+pub record Forth (t u : List ℕ) (a e : ℕ) : Type 0 where
   pub len : length u ≡ length t
-  pub number : size u ≡ size t
-  pub before : (j : ℕ) → j < i → cellAt u j ≡ cellAt t j
-  pub moved : (j : ℕ) → i ≤ j → j < k → cellAt u j ≡ cellAt t (suc j)
-  pub after : (j : ℕ) → k ≤ j → cellAt u j ≡ cellAt t j
+  pub before : (j : ℕ) → j < a + 3 → getD u j 0 ≡ getD t j 0
+  pub moved : (j : ℕ) → a ≤ j → j < e → getD u (j + 3) 0 ≡ getD t j 0
+  pub after : (j : ℕ) → e + 3 ≤ j → getD u j 0 ≡ getD t j 0
+
+-- the bytes of u from a to e stand one place further in t
+pub record Back (t u : List ℕ) (a e : ℕ) : Type 0 where
+  pub len : length u ≡ length t
+  pub before : (j : ℕ) → j < a → getD u j 0 ≡ getD t j 0
+  pub moved : (j : ℕ) → a ≤ j → j < e → getD u j 0 ≡ getD t (j + 3) 0
+  pub after : (j : ℕ) → e ≤ j → getD u j 0 ≡ getD t j 0

@@ -1,12 +1,12 @@
 // `RBTree` of entries by subject, as an ordered array in 385 lent bytes. Inner: these cross crates and may require.
 ghost use mathlib.Core.Path.{_≡_};
 ghost use mathlib.Core.Bool.{true};
-ghost use Prim.Native.Nat.{_-_, _<_, _≤_};
+ghost use Prim.Native.Nat.{_+_, _-_, _*_, _<_, _≤_};
 ghost use lib.ListN.{length};
 ghost use Rattle.entry_tree.specs.Pairs as pairs;
 ghost use Rattle.entry_tree.specs.Pairs.{pair, isEntry, onSubject, inserted, inOrder};
 ghost use Rattle.entry_tree.specs.Places.{treeLength, size, entryAt, subjectAt, read, laid};
-ghost use Rattle.entry_tree.specs.Inner.{cellAt, cellOf, setCell, Room, Closed, removedAt};
+ghost use Rattle.entry_tree.specs.Inner.{cellOf, setCell, Between, Forth, Back, removedAt};
 
 // ---- looking
 
@@ -65,41 +65,44 @@ pub fn first_on(t: &[u8], subject: u16) -> usize
 
 // ---- changing
 
-fn move_place(t: &mut [u8], from: usize, to: usize)
-    requires { ⌜ (length (now t) ≡ treeLength) × ((from < 128) × (to < 128)) ⌝ }
-    ensures { λ _. ⌜ now (t .exit) ≡ setCell (now (t .entry)) to (cellAt (now (t .entry)) from) ⌝ }
+fn write_place(t: &mut [u8], place: usize, entry: u8, subject: u16)
+    requires { ⌜ (length (now t) ≡ treeLength) × (place < 128) ⌝ }
+    ensures { λ _. ⌜ now (t .exit) ≡ setCell (now (t .entry)) place (cellOf (pair entry subject)) ⌝ }
 {
-    let entry = t[1 + 3 * from];
-    let low = t[2 + 3 * from];
-    let high = t[3 + 3 * from];
-    t[1 + 3 * to] = entry;
-    t[2 + 3 * to] = low;
-    t[3 + 3 * to] = high;
+    t[1 + 3 * place] = entry;
+    t[2 + 3 * place] = (subject % 256) as u8;
+    t[3 + 3 * place] = (subject / 256) as u8;
 }
 
-fn write_place(t: &mut [u8], i: usize, entry: u8, subject: u16)
-    requires { ⌜ (length (now t) ≡ treeLength) × (i < 128) ⌝ }
-    ensures { λ _. ⌜ now (t .exit) ≡ setCell (now (t .entry)) i (cellOf (pair entry subject)) ⌝ }
+// Where a pair on the subject belongs, after its equals.
+fn upper_bound(t: &[u8], subject: u16) -> usize
+    requires { ⌜ (length (now t) ≡ treeLength) × (size (now t) ≤ 128) ⌝ }
+    ensures { λ r. ⌜ Between (now (t .entry)) subject r r ⌝ }
 {
-    t[1 + 3 * i] = entry;
-    t[2 + 3 * i] = (subject % 256) as u8;
-    t[3 + 3 * i] = (subject / 256) as u8;
-}
-
-// Moves each pair past the subject one place on; the place that is then free.
-fn make_room(t: &mut [u8], subject: u16) -> usize
-    requires { ⌜ (length (now t) ≡ treeLength) × (size (now t) < 128) ⌝ }
-    ensures { λ r. ⌜ Room (now (t .entry)) (now (t .exit)) subject r × (0 < r → subjectAt (now (t .entry)) (r - 1) ≤ subject) ⌝ }
-{
-    let mut i = len(t);
-    while 0 < i {
-        if subject_at(t, i - 1) <= subject {
-            return i;
+    let mut low = 0;
+    let mut high = len(t);
+    while low < high {
+        let mid = (low + high) / 2;
+        if subject_at(t, mid) <= subject {
+            low = mid + 1;
+        } else {
+            high = mid;
         }
-        move_place(t, i - 1, i);
-        i -= 1;
     }
-    i
+    low
+}
+
+// Moves each pair from the place `i` on one place on.
+fn make_room(t: &mut [u8], i: usize)
+    requires { ⌜ (length (now t) ≡ treeLength) × ((size (now t) < 128) × (i ≤ size (now t))) ⌝ }
+    ensures { λ _. ⌜ Forth (now (t .entry)) (now (t .exit)) (1 + 3 * i) (1 + 3 * size (now (t .entry))) ⌝ }
+{
+    let start = 1 + 3 * i;
+    let mut k = 1 + 3 * len(t);
+    while start < k {
+        k -= 1;
+        t[k + 3] = t[k];
+    }
 }
 
 // The pair joins, after its equals.
@@ -108,7 +111,8 @@ pub fn insert(t: &mut [u8], entry: u8, subject: u16)
     ensures { λ _. ⌜ now (t .exit) ≡ laid (inserted (pair entry subject) (read (now (t .entry)))) (now (t .entry)) ⌝ }
 {
     let n = len(t);
-    let i = make_room(t, subject);
+    let i = upper_bound(t, subject);
+    make_room(t, i);
     write_place(t, i, entry, subject);
     t[0] = (n + 1) as u8;
 }
@@ -116,12 +120,12 @@ pub fn insert(t: &mut [u8], entry: u8, subject: u16)
 // Moves each pair after the place `i` one place back.
 fn close_up(t: &mut [u8], i: usize)
     requires { ⌜ (length (now t) ≡ treeLength) × ((size (now t) ≤ 128) × (i < size (now t))) ⌝ }
-    ensures { λ _. ⌜ Closed (now (t .entry)) (now (t .exit)) i (size (now (t .entry)) - 1) ⌝ }
+    ensures { λ _. ⌜ Back (now (t .entry)) (now (t .exit)) (1 + 3 * i) (3 * size (now (t .entry)) - 2) ⌝ }
 {
-    let last = len(t) - 1;
-    let mut k = i;
-    while k < last {
-        move_place(t, k + 1, k);
+    let end = 3 * len(t) - 2;
+    let mut k = 1 + 3 * i;
+    while k < end {
+        t[k] = t[k + 3];
         k += 1;
     }
 }

@@ -25,7 +25,8 @@ use Rattle.index_entries.specs.Bytes.{kMax, entries, listPart, keyWord, 
 use Rattle.index_entries.specs.Inner.{setWord, setLong, withList}
 use Rattle.index_entries.specs.Laid.{wordOver, valueOver, indexOver, laid}
 use Rattle.index_entries.proofs.Find.{Looks, looks, found-none, found-at, key-not-free}
-use Rattle.index_entries.proofs.Counts.{count-gone, count-kept, count-append, count-one, count-self, gone-row, front-row, back-row, freed-row}
+use Rattle.multi_cycle_list.proofs.Lists.{count-gone, count-kept, count-append}
+use Rattle.index_entries.proofs.Counts.{count-one, count-self, gone-row, front-row, back-row, freed-row}
 use Rattle.index_entries.proofs.Keeping.{Keeps, slot-same, slot-other, by-slot, change-fair}
 use Rattle.index_entries.proofs.Fields.{Has, has-same, has-one}
 use Rattle.index_entries.proofs.Stores.{upd, upd-same, upd-other, has-list, store-word, store-long, store-index}

@@ -17,7 +17,7 @@ use Rattle.state.proofs.Tests.{not-both}
 use Rattle.multi_cycle_list.specs.Lists.{Lists, Fair, count, row, without, removed, movedBack, empty}
 use Rattle.multi_cycle_list.specs.Nodes as nodes
 use Rattle.multi_cycle_list.specs.Laid as lists
-use Rattle.multi_cycle_list.proofs.Lists.{In, in-count, without-none}
+use Rattle.multi_cycle_list.proofs.Lists.{In, in-count, without-none, count-append}
 use Rattle.multi_cycle_list.proofs.WholeTools.{of-allowed}
 use Rattle.multi_cycle_list.proofs.Laid as mcl
 use Rattle.multi_cycle_list.proofs.Changes.{back-fair, empty-fair}
@@ -26,7 +26,7 @@ use Rattle.index_entries.specs.Bytes.{keyWord, value, index}
 use Rattle.index_entries.specs.Laid.{wordOver, valueOver, indexOver, laid}
 use Rattle.index_entries.specs.Inner.{setWord}
 use Rattle.index_entries.proofs.Find.{found-none}
-use Rattle.index_entries.proofs.Counts.{count-append, count-one, count-self}
+use Rattle.index_entries.proofs.Counts.{count-one, count-self}
 use Rattle.index_entries.proofs.Fields.{Has, has-same, has-one}
 use Rattle.index_entries.proofs.Stores.{has-list}
 use Rattle.index_entries.proofs.LaidFields.{laid-has-at}

@@ -143,3 +143,37 @@ in-count e (x ∷ xs) i =
 
 pub in-or-not : (e : ℕ) (xs : List ℕ) → In e xs ⊎ (In e xs → ⊥)
 in-or-not e xs = elim (decLt 0 (count e xs)) [ yes q ↦ inl (count-in e xs q) | no q ↦ inr (λ i. q (in-count e xs i)) ]
+
+-- ---- how often an entry stands in a list after a change
+
+pub count-gone : (e : ℕ) (l : List ℕ) → count e (without e l) ≡ 0
+unfolding count without
+count-gone e [] = refl
+count-gone e (x ∷ xs) =
+    elim (ℕ-discrete x e) [
+      | yes q ↦ ap (count e) (without-same e x xs q) ∙ count-gone e xs
+      | no q ↦ ap (count e) (without-other e x xs q) ∙ count-other e x (without e xs) q ∙ count-gone e xs
+    ]
+
+pub count-kept : (e x : ℕ) (l : List ℕ) → e ≢ x → count e (without x l) ≡ count e l
+unfolding count without
+count-kept e x [] n = refl
+count-kept e x (y ∷ ys) n =
+    elim (ℕ-discrete y x) [
+      | yes q ↦ ap (count e) (without-same x y ys q) ∙ count-kept e x ys n ∙ sym (count-other e y ys (λ z. n (sym z ∙ q)))
+      | no q ↦
+          ap (count e) (without-other x y ys q)
+          ∙ elim (ℕ-discrete y e) [
+            | yes p ↦ count-same e y (without x ys) p ∙ ap suc (count-kept e x ys n) ∙ sym (count-same e y ys p)
+            | no p ↦ count-other e y (without x ys) p ∙ count-kept e x ys n ∙ sym (count-other e y ys p)
+          ]
+    ]
+
+pub count-append : (e : ℕ) (a b : List ℕ) → count e (a ++ b) ≡ count e a + count e b
+unfolding count
+count-append e [] b = omega arith
+count-append e (x ∷ xs) b =
+    elim (ℕ-discrete x e) [
+      | yes q ↦ omega (arith, count-same e x (xs ++ b) q, count-same e x xs q, count-append e xs b)
+      | no q ↦ omega (arith, count-other e x (xs ++ b) q, count-other e x xs q, count-append e xs b)
+    ]

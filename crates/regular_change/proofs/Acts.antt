@@ -14,13 +14,14 @@ use borrow.Author.Tests.{not-true, ltb-true, ltb-false, lt-ltb, le-ltb, eq-eqb, 
 use borrow.Rule.Slice.PartMut.{putMid}
 use Rattle.state.specs.Result.{Bytes}
 use Rattle.state.specs.Seq.{each}
+use Rattle.state.proofs.Filled.{zero-bytes}
 use Rattle.state.proofs.Tests.{by-cond, and-r}
 use Rattle.multi_cycle_list.specs.Lists as lists
 use Rattle.multi_cycle_list.specs.Lists.{Lists, without-entry, movedBack, empty}
 use Rattle.multi_cycle_list.specs.declared.inner.MaybeEntry.the-variants as maybe
 use Rattle.multi_cycle_list.specs.Nodes as nodes
 use Rattle.multi_cycle_list.specs.Laid as listsLaid
-use Rattle.multi_cycle_list.proofs.Lists.{without-none, in-count, without-same, count-same}
+use Rattle.multi_cycle_list.proofs.Lists.{without-none, in-count, without-same, count-same, count-gone, count-kept}
 use Rattle.multi_cycle_list.proofs.Laid as queues
 use Rattle.multi_cycle_list.proofs.Changes.{remove-fair, back-fair, empty-fair}
 use Rattle.entry_tree.specs.Pairs.{Pair, pair, bit, count, isEntry, onSubject, hasEntry, hasSubject, inserted, without, position, placeOf, Place, past, inOrder}
@@ -38,7 +39,7 @@ use Rattle.regular_fair.proofs.Facts.{Facts, at-most}
 use Rattle.regular_fair.proofs.Count.{few-entries}
 use Rattle.regular_fair.proofs.Good.{find-rest}
 use Rattle.regular_fair.proofs.Places.{mark-range, next-range}
-use Rattle.regular_fair.proofs.Queue.{count-gone, count-kept}
+use Rattle.regular_fair.proofs.Poll.{step-front, step-last, step-next}
 use Rattle.regular_fair.proofs.Reading.{parts, read-facts, queue-fair}
 use Rattle.regular_fair.proofs.Round.{tailOf, tailLaid, split-long, split-whole, laid-joined, laid-from, queue-read, bytes-part, active-self, inactive-self, queue-self, low-self, high-self, flag-self, walk-self}
 use Rattle.regular_change.specs.Inner.{walkAt, fromAt, gapBefore, gapOf, more, withSlots, withFlag, withWalk, withWalkPast}
@@ -89,13 +90,6 @@ zero-at : (i : ℕ) → i < 1036 → getD zeros i 0 ≡ 0
 unfolding zeros
 zero-at i l = getD-replicate {A = ℕ} 1036 i 0 0 l
 
-zero-bytes : Bytes zeros
-unfolding zeros
-zero-bytes i = elim (decLt i 1036) [
-  | yes l ↦ omega (arith, zero-at i l)
-  | no l ↦ omega (arith, List·getD-eq-default zeros 0 {n = i} (omega (arith, length-replicate {A = ℕ} 1036 0)))
-]
-
 -- a tree of no pairs, over bytes that say so
 empty-tree : (t : List ℕ) → length t ≡ 385 → Bytes t → tree.size t ≡ 0 → t ≡ tree.laid [] t
 unfolding tree.read each
@@ -118,8 +112,8 @@ opened n =
     let s3 = set s2 1033 (n / 256) in
     let j4 = set-tail s3 A I q (set (set (tailOf b) 0 (n % 256)) 1 (n / 256)) j3 3 255 (omega arith) in
     laid-from (fresh n) b j4
-    (empty-tree A (j0 .long-a) (bytes-part 0 385 b zero-bytes) (getD-take 385 b 0 0 (omega arith) ∙ zero-at 0 (omega arith)))
-    (empty-tree I (j0 .long-i) (bytes-part 385 385 b zero-bytes) (getD-take 385 (drop 385 b) 0 0 (omega arith) ∙ getD-drop 385 b 0 0 ∙ zero-at 385 (omega arith)))
+    (empty-tree A (j0 .long-a) (bytes-part 0 385 b (zero-bytes 1036)) (getD-take 385 b 0 0 (omega arith) ∙ zero-at 0 (omega arith)))
+    (empty-tree I (j0 .long-i) (bytes-part 385 385 b (zero-bytes 1036)) (getD-take 385 (drop 385 b) 0 0 (omega arith) ∙ getD-drop 385 b 0 0 ∙ zero-at 385 (omega arith)))
     refl refl refl
     (zero-at 1034 (omega arith))
     (ap (walkOver none) (sym (zero-at 1035 (omega arith))))
@@ -203,7 +197,7 @@ any-none e l h = omega (arith, ltb-false 0 (count (isEntry e) l) h)
 any-some : (e : ℕ) (l : List Pair) → hasEntry e l ≡ true → 0 < count (isEntry e) l
 any-some e l h = ltb-true 0 (count (isEntry e) l) h
 
--- ---- the front of a queue, and the inner step by the queues
+-- ---- the front of a queue
 
 pub first-some : (l : List ℕ) (e : ℕ) → lists.first l ≡ maybe.Some e → l ≡ e ∷ drop 1 l
 first-some [] e q = absurd (let z : _≡_ {A = ℕ} 0 1 = cc in omega arith)
@@ -212,16 +206,6 @@ first-some (x ∷ l) e q = let z : x ≡ e = cc in ap (λ (k : ℕ). k ∷ l) z
 pub first-none : (l : List ℕ) → lists.first l ≡ maybe.None → l ≡ []
 first-none [] q = refl
 first-none (x ∷ l) q = absurd (let z : _≡_ {A = ℕ} 0 1 = cc in omega arith)
-
-module _ (m : Registry) where
-  pub step-front : (e : ℕ) (ms : List ℕ) → m .cleanUp ≡ e ∷ ms → innerStep m ≡ stepBy (e ∷ ms) (m .lastGap) (m .activation) m
-  step-front e ms q = ap (λ (c : List ℕ). stepBy c (m .lastGap) (m .activation) m) q
-
-  pub step-last : m .cleanUp ≡ [] → m .lastGap ≡ true → innerStep m ≡ stepBy [] true (m .activation) m
-  step-last q f = ap (λ (c : List ℕ). stepBy c (m .lastGap) (m .activation) m) q ∙ ap (λ (t : Bool). stepBy [] t (m .activation) m) f
-
-  pub step-next : m .cleanUp ≡ [] → m .lastGap ≡ false → (l : List ℕ) → m .activation ≡ l → innerStep m ≡ stepBy [] false l m
-  step-next q f l a = ap (λ (c : List ℕ). stepBy c (m .lastGap) (m .activation) m) q ∙ ap (λ (t : Bool). stepBy [] t (m .activation) m) f ∙ ap (λ (c : List ℕ). stepBy [] false c m) a
 
 -- a whole queue of 2 classes and 128 entries
 pub record Queue (q : List ℕ) : Type 0 where

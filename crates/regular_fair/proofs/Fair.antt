@@ -5,7 +5,7 @@ use native.Mathlib.Omega.{arith}
 use Rattle.state.specs.Result.{left}
 use Rattle.regular.specs.Registry.{Registry}
 use Rattle.regular.specs.Steps.{Call, Register, Unregister, HubPushStart, PollPop, HubPushNext, step, innerStep}
-use Rattle.regular.specs.Calls.{Fair}
+use Rattle.regular_fair.specs.Means.{Fair}
 use Rattle.regular_fair.specs.Moves as moves
 use Rattle.regular_fair.specs.Moves.{Registered}
 use Rattle.regular_fair.proofs.Facts.{Facts, facts-of, whole-of, inside-of}

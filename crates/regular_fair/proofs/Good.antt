@@ -14,7 +14,8 @@ use Rattle.regular.specs.Steps.{newMark, headGaps, isHead, gaps}
 use Rattle.regular.specs.declared.Answer.the-variants.{AddSubject, RemoveSubjectRange}
 use Rattle.regular_fair.specs.Moves.{into}
 use Rattle.regular_fair.proofs.Count.{same, diff, below, above, compareEq, compareLe, eqb-self, count-self, count-subject, first-only, count-off, not-there}
-use Rattle.regular_fair.proofs.Queue.{count-append, count-kept, count-maybe, count-maybe-other}
+use Rattle.multi_cycle_list.proofs.Lists.{count-append, count-kept}
+use Rattle.regular_fair.proofs.Queue.{count-maybe, count-maybe-other}
 use Rattle.regular_fair.proofs.Facts.{Ordered, onil, ocons}
 
 -- `M` says how often an entry is marked, `f` is the last-gap flag, `F` the filter, and `from` the first subject past the pair before.

@@ -9,6 +9,7 @@ use native.Mathlib.Decide.{decLt}
 use lib.Dec.{eqb, ltb}
 use lib.ListN.{length, getD, replicate, length-replicate}
 use borrow.Author.Tests.{ltb-false, eqb-true, eq-eqb, lt-ltb, le-ltb, ne-eqb}
+use Rattle.state.proofs.Filled.{zero-bytes}
 use Rattle.state.specs.Lengths.{regularLength}
 use Rattle.state.specs.Result.{refuse, done, Bytes}
 use Rattle.state.proofs.Calls.{Kept, kept}
@@ -23,7 +24,8 @@ use Rattle.regular.specs.Registry as registry
 use Rattle.regular.specs.Registry.{Registry, fresh}
 use Rattle.regular.specs.Bytes.{activePart, inactivePart, queuePart, walkOf, read, wholeB, flagOver, walkOver, queueOf, laid}
 use Rattle.regular.specs.Steps.{Call, step}
-use Rattle.regular.specs.Calls.{Fair, Sized, opening, on, RegularMeans}
+use Rattle.regular.specs.Calls.{opening, on}
+use Rattle.regular_fair.specs.Means.{Fair, Sized, RegularMeans}
 use Rattle.regular.specs.declared.Answer.{Answer}
 use Rattle.regular.specs.declared.Answer.the-variants.{Refused, Done}
 use Rattle.regular.proofs.Parts.{join, Joined, split, active-is, inactive-is, queue-is, tail-at, long}
@@ -48,11 +50,6 @@ bytes-four x0 x1 x2 x3 h0 h1 h2 h3 (suc zero) = h1
 bytes-four x0 x1 x2 x3 h0 h1 h2 h3 (suc (suc zero)) = h2
 bytes-four x0 x1 x2 x3 h0 h1 h2 h3 (suc (suc (suc zero))) = h3
 bytes-four x0 x1 x2 x3 h0 h1 h2 h3 (suc (suc (suc (suc i)))) = omega arith
-
-zero-bytes : (n : ℕ) → Bytes (replicate n 0)
-zero-bytes zero i = omega arith
-zero-bytes (suc n) zero = omega arith
-zero-bytes (suc n) (suc i) = zero-bytes n i
 
 flag-byte : (f : Bool) (v : ℕ) → v < 256 → flagOver f v < 256
 flag-byte false v h = omega arith

@@ -27,6 +27,18 @@ use Rattle.regular_fair.proofs.Sound.{Sound, front-sound, last-sound, a
 use Rattle.regular_fair.proofs.Inv.{Inv, entryOf}
 use Rattle.regular_fair.proofs.Calls.{Kept}
 
+-- ---- the inner step by the queues
+
+module _ (m : Registry) where
+  pub step-front : (e : ℕ) (ms : List ℕ) → m .cleanUp ≡ e ∷ ms → innerStep m ≡ stepBy (e ∷ ms) (m .lastGap) (m .activation) m
+  step-front e ms q = ap (λ (c : List ℕ). stepBy c (m .lastGap) (m .activation) m) q
+
+  pub step-last : m .cleanUp ≡ [] → m .lastGap ≡ true → innerStep m ≡ stepBy [] true (m .activation) m
+  step-last q f = ap (λ (c : List ℕ). stepBy c (m .lastGap) (m .activation) m) q ∙ ap (λ (t : Bool). stepBy [] t (m .activation) m) f
+
+  pub step-next : m .cleanUp ≡ [] → m .lastGap ≡ false → (l : List ℕ) → m .activation ≡ l → innerStep m ≡ stepBy [] false l m
+  step-next q f l a = ap (λ (c : List ℕ). stepBy c (m .lastGap) (m .activation) m) q ∙ ap (λ (t : Bool). stepBy [] t (m .activation) m) f ∙ ap (λ (c : List ℕ). stepBy [] false c m) a
+
 -- ---- one inner step
 
 -- the inner step of a registry with nothing to clean up and the entry e next
@@ -114,10 +126,6 @@ steps-is : (n : ℕ) (m : Registry) (s : Step) → innerStep m ≡ s → steps (
 unfolding steps
 steps-is n m s q = ap (λ (t : Step). onStep (t .says) (t .then) (steps n (t .then))) q
 
-still-step : (m : Registry) → m .cleanUp ≡ [] → m .lastGap ≡ false → m .activation ≡ [] → innerStep m ≡ record { says = pops.Nothing; then = m }
-still-step m c l a =
-    ap (λ (k : List ℕ). stepBy k (m .lastGap) (m .activation) m) c ∙ ap (λ (f : Bool). stepBy [] f (m .activation) m) l ∙ ap (λ (k : List ℕ). stepBy [] false k m) a
-
 -- the pair p becomes active
 active-inv : (m : Registry) (F F' : ℕ → Bool) (g : Registered) → Inv m F g → (p : Pair) (w : List Pair) → g .waiting ≡ p ∷ w → Sound (becomesActive (p .entry) (p .subject) (map entryOf w) m) F'
     → Inv (becomesActive (p .entry) (p .subject) (map entryOf w) m) F' (moves.lists w (g .active ++ (p ∷ [])))
@@ -144,7 +152,7 @@ quiet (suc n) m F g i c l h d b = go (g .waiting) refl (λ m' g' i' c' l' h' b'.
         → Quiet d F (activated w (g .active)) (steps (suc n) m)
     go [] q rec =
         let a : m .activation ≡ [] = sym (i .queue) ∙ ap (map entryOf) q in
-        rw (steps-is n m (record { says = pops.Nothing; then = m }) (still-step m c l a))
+        rw (steps-is n m (record { says = pops.Nothing; then = m }) (step-next m c l [] a))
         (stops m (record { sound = i .sound; room = i .room; queue = sym a; waiting = rw q at (i .waiting); active = i .active }) (rw (c, l, a) refl))
     go (p ∷ w) q rec =
         let x : ℕ = p .subject in

@@ -9,7 +9,7 @@ use native.Mathlib.Omega.{arith}
 use lib.Dec.{T}
 use Rattle.state.proofs.Tests.{not-both}
 use Rattle.multi_cycle_list.specs.Lists as lists
-use Rattle.multi_cycle_list.proofs.Lists.{count-other}
+use Rattle.multi_cycle_list.proofs.Lists.{count-other, count-append, count-gone, count-kept}
 use Rattle.entry_tree.specs.Pairs.{Pair, pair, Place, bit, count, any, isEntry, onSubject, without, inserted, placeOf, past}
 use Rattle.entry_tree.proofs.Changes.{inserted-count, without-count, without-count-other, without-count-same}
 use Rattle.regular.specs.Registry.{Registry, fresh}
@@ -17,7 +17,7 @@ use Rattle.regular.specs.Steps.{newMark, headGaps, isHead, gaps, walkPast, wait
 use Rattle.regular.specs.declared.Answer.the-variants.{AddSubject, RemoveSubjectRange}
 use Rattle.regular_fair.specs.Moves.{into}
 use Rattle.regular_fair.proofs.Count.{same, diff, below, above, compareEq, compareLe, T-true, any-true, true-any, count-self, not-there}
-use Rattle.regular_fair.proofs.Queue.{count-append, count-gone, count-kept, count-first, count-le, count-back, count-joined, count-maybe, count-maybe-other, count-nil}
+use Rattle.regular_fair.proofs.Queue.{count-first, count-le, count-back, count-joined, count-maybe, count-maybe-other, count-nil}
 use Rattle.regular_fair.proofs.Facts.{Facts, onil}
 use Rattle.regular_fair.proofs.Good.{Good, gnil, mark, into-sub, front-good, past-clear, last-good, find-rest, without-good, inserted-same, inserted-new, added-out, held-all, order-of, exact-good}
 use Rattle.regular_fair.proofs.Places.{find-after, find-on, find-low, last-head, inserted-order, without-order, past-le, some-is, none-some, next-in}

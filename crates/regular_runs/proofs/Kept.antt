@@ -7,6 +7,7 @@ use native.Mathlib.Omega.{arith}
 use lib.Dec.{eqb, ltb}
 use lib.ListN.{length, replicate, length-replicate}
 use borrow.Author.Tests.{eq-eqb, le-ltb}
+use Rattle.state.proofs.Filled.{zero-bytes}
 use Rattle.state.specs.Lengths.{regularLength, imageLength}
 use Rattle.state.specs.Result.{Result, done, answer, left, Bytes}
 use Rattle.state.proofs.Tests.{by-cond, not-both}
@@ -38,11 +39,6 @@ pub state-long : (w : Now) → Good w → length (w .state) ≡ regularLength
 state-long w g = means .meaning .whole-sized (w .state) (g .whole)
 
 -- ---- the start
-
-zero-bytes : (n : ℕ) → Bytes (replicate n 0)
-zero-bytes zero i = omega arith
-zero-bytes (suc n) zero = omega arith
-zero-bytes (suc n) (suc i) = zero-bytes n i
 
 opens : (n k : ℕ) → k ≡ regularLength → n ≤ 65535 → opening k n ≡ done Done (fresh n)
 unfolding opening

@@ -19,7 +19,8 @@ use Rattle.entry_tree.proofs.Reading.{read-length}
 use Rattle.regular.specs.Registry.{Registry}
 use Rattle.regular.specs.Bytes.{inactivePart, queuePart, wholeB, read, laid}
 use Rattle.regular.specs.Steps.{Step, stepBy, innerStep, onStep, steps, pollPop}
-use Rattle.regular.specs.Calls.{Fair, on}
+use Rattle.regular.specs.Calls.{on}
+use Rattle.regular_fair.specs.Means.{Fair}
 use Rattle.regular.specs.declared.Answer.{Answer}
 use Rattle.regular.specs.declared.Answer.the-variants.{AddSubject, RemoveSubjectRange, Nothing}
 use Rattle.regular.specs.declared.Popped as popped
@@ -27,10 +28,9 @@ use Rattle.regular.specs.declared.Popped.the-variants as pops
 use Rattle.regular_fair.proofs.Facts.{at-most}
 use Rattle.regular_fair.proofs.Fair.{Whole, whole-fair, inner-whole}
 use Rattle.regular_fair.proofs.Reading.{parts, read-facts, read-whole}
-use Rattle.regular_fair.proofs.Poll.{again-shorter}
+use Rattle.regular_fair.proofs.Poll.{again-shorter, step-next}
 use Rattle.regular_fair.proofs.Round.{queue-read, laid-read, laid-again}
 use Rattle.regular_fair.proofs.Mean.{read-laid, laid-whole, laid-bytes}
-use Rattle.regular_change.proofs.Acts.{step-next}
 use Rattle.rx_msg.proofs.Calls.{changes}
 
 -- ---- the queues' fronts

@@ -1,11 +1,12 @@
 -- A slice that is filled byte by byte.
-use Prim.Native.Nat.{ℕ, _+_, _<_}
+use Prim.Native.Nat.{ℕ, zero, suc, _+_, _<_}
 use mathlib.Core.Path.{_≡_, sym, ap, _∙_}
 use mathlib.Core.List.{List}
 use native.Mathlib.Omega.{arith}
 use native.Mathlib.Decide.{ℕ-discrete, decLt}
 use lib.ListN.{length, getD, set, replicate, length-replicate, getD-replicate}
 use lib.Seq.{ext-getD, getD-set-same, getD-set-other}
+use Rattle.state.specs.Result.{Bytes}
 
 pub filled-more : (s : List ℕ) (i v : ℕ) → i < length s → ((k : ℕ) → k < i → getD s k 0 ≡ v) → (k : ℕ) → k < i + 1 → getD (set s i v) k 0 ≡ v
 filled-more s i v h f k l =
@@ -16,3 +17,8 @@ filled-more s i v h f k l =
 
 pub filled-all : (s : List ℕ) (n v : ℕ) → length s ≡ n → ((k : ℕ) → k < length s → getD s k 0 ≡ v) → s ≡ replicate n v
 filled-all s n v q f = ext-getD 0 s (replicate n v) (q ∙ sym (length-replicate {A = ℕ} n v)) (λ k l. f k l ∙ sym (getD-replicate {A = ℕ} n k v 0 (omega arith)))
+
+pub zero-bytes : (n : ℕ) → Bytes (replicate n 0)
+zero-bytes zero i = omega arith
+zero-bytes (suc n) zero = omega arith
+zero-bytes (suc n) (suc i) = zero-bytes n i

@@ -1,47 +1,58 @@
 use native.Mathlib.Omega.{arith}
-use Prim.Native.Nat.{ℕ, _-_, _≤_}
-use mathlib.Core.Path.{_≡_, refl, _∙_, subst}
+use Prim.Native.Nat.{_-_, _*_, _≤_}
 use Rattle.entry_tree.specs.Places.{size}
-use Rattle.entry_tree.specs.Inner.{Closed}
-use Rattle.entry_tree.proofs.Moves.{closed-none, closed-more}
+use Rattle.entry_tree.specs.Inner.{Back}
+use Rattle.entry_tree.proofs.Moves.{back-none, back-more, back-end}
 use Rattle.entry_tree.proofs.close_up.Statement.{statement}
 use Rattle.entry_tree.proofs.close_up.Tie as tie
 
 abbrev Inv-loop : tie.InvT-loop
-Inv-loop t₀ i last k₀ t k = (i ≤ k) × ((k ≤ last) × Closed t₀ t i k)
+Inv-loop t₀ i end k₀ t k = (k₀ ≤ k) × ((k ≤ end) × Back t₀ t k₀ k)
 
 abbrev μ-loop : tie.MeasureT-loop
-μ-loop t₀ i last k₀ t k = last - k
+μ-loop t₀ i end k₀ t k = end - k
 
 len-requires : tie.Need-len-requires Inv-loop μ-loop
 len-requires c κs = c .before .before .pre .0
 
-sub-last : tie.Need-sub-last Inv-loop μ-loop
-sub-last c = omega (arith, c .len .ensures .0, c .before .before .before .pre .1 .1)
+mul-end : tie.Need-mul-end Inv-loop μ-loop
+mul-end c = omega (arith, c .len .ensures .1)
 
-loop-holds : tie.Need-loop-holds Inv-loop μ-loop
-loop-holds c = (omega arith, (omega (arith, c .len .ensures .0, c .before .before .before .pre .1 .1), closed-none (c .before .before .before .args .t .now) (c .before .before .before .args .i) (c .before .before .before .args .i) refl))
+sub-end : tie.Need-sub-end Inv-loop μ-loop
+sub-end c = omega (arith, c .len .ensures .0, c .before .before .before .pre .1 .1)
 
-add-move-place : tie.Need-add-move-place Inv-loop μ-loop
-add-move-place c = omega (arith, c .before .before .before .len .ensures .1)
-
-move-place-requires : tie.Need-move-place-requires Inv-loop μ-loop
-move-place-requires c κs = let l = c .before .before .loop in (l .inv .1 .1 .len ∙ c .before .before .before .before .before .before .pre .0, (omega (arith, c .before .before .before .len .ensures .0, c .before .before .before .before .before .before .pre .1 .0), omega (arith, c .before .before .before .len .ensures .0, c .before .before .before .before .before .before .pre .1 .0)))
+mul-k : tie.Need-mul-k Inv-loop μ-loop
+mul-k c = omega (arith, c .before .before .before .pre .1)
 
 add-k : tie.Need-add-k Inv-loop μ-loop
-add-k c = omega (arith, c .before .before .before .before .before .before .len .ensures .1)
+add-k c = omega (arith, c .before .before .before .pre .1)
+
+loop-holds : tie.Need-loop-holds Inv-loop μ-loop
+loop-holds c = (omega arith, (omega (arith, c .len .ensures .0, c .before .before .before .pre .1 .1), back-none (c .before .before .before .args .t .now) _))
+
+add-t : tie.Need-add-t Inv-loop μ-loop
+add-t c = omega (arith, c .before .before .len .ensures .1)
+
+slice-read-t : tie.Need-slice-read-t Inv-loop μ-loop
+slice-read-t c = omega (arith, c .before .before .loop .inv .1 .1 .len, c .before .before .before .len .ensures .0, c .before .before .before .before .before .before .pre .0, c .before .before .before .before .before .before .pre .1 .0)
+
+slice-write-t : tie.Need-slice-write-t Inv-loop μ-loop
+slice-write-t c = omega (arith, c .before .before .loop .inv .1 .1 .len, c .before .before .before .len .ensures .0, c .before .before .before .before .before .before .pre .0, c .before .before .before .before .before .before .pre .1 .0)
+
+add-k-2 : tie.Need-add-k-2 Inv-loop μ-loop
+add-k-2 c = omega (arith, c .before .before .before .len .ensures .1)
 
 loop-less : tie.Need-loop-less Inv-loop μ-loop
 loop-less c = omega arith
 
 loop-again : tie.Need-loop-again Inv-loop μ-loop
-loop-again c = let l = c .before .before .before .before .before .loop in (omega (arith, l .inv .0), (omega arith, closed-more (c .before .before .before .before .before .before .before .before .before .args .t .now) (c .before .before .before .before .before .before .before .before .before .pre .0) (c .before .before .before .before .before .before .before .before .before .args .i) (l .k) (l .inv .0) (omega (arith, c .before .before .before .before .before .before .len .ensures .0, c .before .before .before .before .before .before .before .before .before .pre .1 .0)) (l .t) (l .inv .1 .1) _ (c .before .before .move-place .ensures)))
+loop-again c = (omega (arith, c .before .before .loop .inv .0), (omega arith, back-more (c .before .before .before .before .before .before .args .t .now) (c .before .before .loop .t) _ (c .before .before .loop .k) (c .before .before .loop .inv .1 .1) (c .before .before .loop .inv .0) (omega (arith, c .before .before .before .len .ensures .0, c .before .before .before .before .before .before .pre .0, c .before .before .before .before .before .before .pre .1 .0))))
 
 same-length : tie.Need-same-length Inv-loop μ-loop
 same-length c = c .before .loop .inv .1 .1 .len
 
 returns : tie.Need-returns Inv-loop μ-loop
-returns c = let l = c .before .loop in let z : l .k ≡ size (c .before .before .before .before .before .args .t .now) - 1 = omega (arith, c .before .before .len .ensures .0, l .inv .1 .0) in subst (λ (k : ℕ). Closed (c .before .before .before .before .before .args .t .now) (l .t) (c .before .before .before .before .before .args .i) k) z (l .inv .1 .1)
+returns c = back-end (c .before .before .before .before .before .args .t .now) (c .before .loop .t) _ (c .before .loop .k) (c .before .loop .inv .1 .1) (3 * size (c .before .before .before .before .before .args .t .now) - 2) (omega (arith, c .before .loop .inv .1 .0, c .before .before .len .ensures .0))
 
 pub close-up-spec : {M : Type 1} → statement M
 close-up-spec =
@@ -50,11 +61,15 @@ close-up-spec =
     Inv-loop
     μ-loop
     len-requires
-    sub-last
-    loop-holds
-    add-move-place
-    move-place-requires
+    mul-end
+    sub-end
+    mul-k
     add-k
+    loop-holds
+    add-t
+    slice-read-t
+    slice-write-t
+    add-k-2
     loop-less
     loop-again
     same-length

@@ -1,20 +1,48 @@
 -- Document 01's starred cases, in one table. Each row runs calls, by the definitions that their contracts cite, on zero bytes
--- that its first call opens, and has the answers that are wanted.
+-- that its first call opens.
 use Prim.Native.Nat.{ℕ}
 use mathlib.Core.Path.{_≡_}
+use mathlib.Core.Bool.{Bool, true, false}
 use mathlib.Core.List.{List, [], _∷_, map}
+use mathlib.Core.Option.{Option, some}
 use lib.ListN.{replicate}
-use Rattle.state.specs.Lengths.{keysLength}
-use Rattle.gomxeli.specs.Answers.{packed}
-use Rattle.gomxeli.specs.Calls.{Call, IqOpen, IqInsert, IqGet, IqRemove, run}
+use Rattle.state.specs.Lengths.{keysLength, regularLength}
+use Rattle.regular.specs.Bytes.{read}
+use Rattle.regular.specs.Steps.{firstOn}
+use Rattle.gomxeli.specs.Answers.{packed, flag}
+use Rattle.gomxeli.specs.Calls.{Call, IqOpen, IqInsert, IqGet, IqRemove, RegOpen, RegRegister, RegUnregister, RegPollPop, RegHubPushStart, RegHubPushNext, run, left}
 
+-- what bytes tell: a regular registry's slot counter; the head of a subject, its first active entry
+pub data Told : Type 0 where
+  Counter : ℕ → Told
+  Head : ℕ → Option ℕ → Told
+
+-- the same of the bytes b
+abbrev pub tells : List ℕ → Told → Told
+tells b (Counter n) = Counter ((read b) .slots)
+tells b (Head x e) = Head x (firstOn x ((read b) .active))
+
+-- a state's length, calls on it, and what is wanted: their answers, and what the bytes that they leave tell
 pub record Row : Type 0 where
   pub length : ℕ
   pub calls : List Call
-  pub wanted : List ℕ
+  pub answers : List ℕ
+  pub told : List Told
 
-abbrev pub found : Row → List ℕ
-found r = run (r .calls) (replicate (r .length) 0)
+pub record Seen : Type 0 where
+  pub answers : List ℕ
+  pub told : List Told
+
+abbrev pub found : Row → Seen
+found r = record {
+  answers = run (r .calls) (replicate (r .length) 0);
+  told = map (tells (left (r .calls) (replicate (r .length) 0))) (r .told);
+}
+
+abbrev pub wanted : Row → Seen
+wanted r = record { answers = r .answers; told = r .told }
+
+-- ---- answers
 
 -- accepted, with nothing to tell; accepted, with a value; a refusal
 abbrev pub plain : ℕ
@@ -26,15 +54,92 @@ value v = packed 0 1 0 v
 abbrev pub refused : ℕ → ℕ
 refused n = packed n 0 0 0
 
+-- accepted, with a wake flag
+abbrev pub wake : Bool → ℕ
+wake b = packed 0 (flag b) 0 0
+
+-- a poll's updates; it says 'nothing' by `plain`
+abbrev pub adds : ℕ → ℕ
+adds x = packed 0 1 x 0
+
+abbrev pub removes : ℕ → ℕ → ℕ
+removes a b = packed 0 2 a b
+
+-- a walk that points at an entry; it names one, and tells whether more follow; it names none by `plain`
+abbrev pub points : ℕ
+points = packed 0 1 0 0
+
+abbrev pub names : ℕ → Bool → ℕ
+names e more = packed 0 1 e (flag more)
+
+-- ---- the table
+
 unfoldable pub table : List Row
 table =
-    -- key 3 value 7, then key 3 value 9: 7 comes back, 9 is not kept; remove 3: 16
+    -- a fresh poll: nothing
     record {
+      length = regularLength;
+      calls = RegOpen 1 ∷ RegPollPop ∷ [];
+      answers = plain ∷ plain ∷ [];
+      told = [];
+    }
+    -- 100 by entries 0, 1, unpolled: poll adds 100, next poll nothing; then remove 0: poll nothing, 1 is head
+    ∷ record {
+      length = regularLength;
+      calls = RegOpen 1 ∷ RegRegister 0 100 ∷ RegRegister 1 100 ∷ RegPollPop ∷ RegPollPop ∷ RegUnregister 0 ∷ RegPollPop ∷ [];
+      answers = plain ∷ wake true ∷ wake false ∷ adds 100 ∷ plain ∷ wake false ∷ plain ∷ [];
+      told = Head 100 (some 1) ∷ [];
+    }
+    -- 100, 200, 300 active from 3 slots; remove 200, then 100: one update, 0 to 299; counter 1
+    ∷ record {
+      length = regularLength;
+      calls = RegOpen 3 ∷ RegRegister 0 100 ∷ RegRegister 1 200 ∷ RegRegister 2 300 ∷ RegPollPop ∷ RegPollPop ∷ RegPollPop ∷ RegUnregister 1 ∷ RegUnregister 0 ∷ RegPollPop ∷ RegPollPop ∷ [];
+      answers = plain ∷ wake true ∷ wake true ∷ wake true ∷ adds 100 ∷ adds 200 ∷ adds 300 ∷ wake true ∷ wake false ∷ removes 0 299 ∷ plain ∷ [];
+      told = Counter 1 ∷ [];
+    }
+    -- only 300 active, removed: 0 to 8,191
+    ∷ record {
+      length = regularLength;
+      calls = RegOpen 1 ∷ RegRegister 0 300 ∷ RegPollPop ∷ RegUnregister 0 ∷ RegPollPop ∷ [];
+      answers = plain ∷ wake true ∷ adds 300 ∷ wake true ∷ removes 0 8191 ∷ [];
+      told = [];
+    }
+    -- 0 and 1 active, 0 removed: 0 to 0
+    ∷ record {
+      length = regularLength;
+      calls = RegOpen 2 ∷ RegRegister 0 0 ∷ RegRegister 1 1 ∷ RegPollPop ∷ RegPollPop ∷ RegUnregister 0 ∷ RegPollPop ∷ [];
+      answers = plain ∷ wake true ∷ wake true ∷ adds 0 ∷ adds 1 ∷ wake true ∷ removes 0 0 ∷ [];
+      told = [];
+    }
+    -- 8,190 and 8,191 active, 8,191 removed: 8,191 to 8,191
+    ∷ record {
+      length = regularLength;
+      calls = RegOpen 2 ∷ RegRegister 0 8190 ∷ RegRegister 1 8191 ∷ RegPollPop ∷ RegPollPop ∷ RegUnregister 1 ∷ RegPollPop ∷ [];
+      answers = plain ∷ wake true ∷ wake true ∷ adds 8190 ∷ adds 8191 ∷ wake true ∷ removes 8191 8191 ∷ [];
+      told = [];
+    }
+    -- one slot, register 100, remove unpolled, register 101: 6
+    ∷ record {
+      length = regularLength;
+      calls = RegOpen 1 ∷ RegRegister 0 100 ∷ RegUnregister 0 ∷ RegRegister 0 101 ∷ [];
+      answers = plain ∷ wake true ∷ wake false ∷ refused 6 ∷ [];
+      told = [];
+    }
+    -- entries 0, 1, 2 active on 100, walk names 0, remove 1, walk names 2, ends
+    ∷ record {
+      length = regularLength;
+      calls = RegOpen 1 ∷ RegRegister 0 100 ∷ RegRegister 1 100 ∷ RegRegister 2 100 ∷ RegPollPop ∷ RegPollPop ∷ RegHubPushStart 100 ∷ RegHubPushNext ∷ RegUnregister 1 ∷ RegHubPushNext ∷ RegHubPushNext ∷ [];
+      answers = plain ∷ wake true ∷ wake false ∷ wake false ∷ adds 100 ∷ plain ∷ points ∷ names 0 true ∷ wake false ∷ names 2 false ∷ plain ∷ [];
+      told = [];
+    }
+    -- key 3 value 7, then key 3 value 9: 7 comes back, 9 is not kept; remove 3: 16
+    ∷ record {
       length = keysLength 3 2;
       calls = IqOpen 3 2 ∷ IqInsert 3 7 ∷ IqInsert 3 9 ∷ IqGet 3 ∷ IqRemove 3 ∷ [];
-      wanted = plain ∷ plain ∷ value 7 ∷ plain ∷ refused 16 ∷ [];
+      answers = plain ∷ plain ∷ value 7 ∷ plain ∷ refused 16 ∷ [];
+      told = [];
     }
     ∷ []
 
 pub record Cases : Type 0 where
-  pub all : map found table ≡ map (λ r. r .wanted) table
+  pub all : map found table ≡ map wanted table

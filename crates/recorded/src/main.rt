@@ -1,12 +1,14 @@
 // Replays recorded calls: reads lines of four numbers, a call and its three numbers, from standard input, makes each call on
 // states of its own, and writes each answer. Its standard input and output are the Rust's own answers, recorded by oracle/compare.
+use gomxeli::img;
 use gomxeli::iq;
 use gomxeli::leaves;
 use gomxeli::mcq;
+use gomxeli::reg;
 ghost use Prim.Native.Nat.{_≤_};
 ghost use lib.ListN.{length};
 
-// The numbers of the line so far, the one being read, and the lengths of the two states.
+// The numbers of the line so far, the one being read, and the lengths of the list queue's and the key queue's bytes.
 struct Line {
     op: u64,
     a: u64,
@@ -102,6 +104,26 @@ fn keys_call(s: &mut [u8], op: u64, a: u32, b: u32) -> u64 {
     }
 }
 
+fn registry_call(s: &mut [u8], op: u64, a: u32, b: u32) -> u64 {
+    match op {
+        60 => reg::gomxeli_reg_open(s, a),
+        61 => reg::gomxeli_reg_register(s, a, b),
+        62 => reg::gomxeli_reg_unregister(s, a),
+        63 => reg::gomxeli_reg_poll_pop(s),
+        64 => reg::gomxeli_reg_hub_push_start(s, a),
+        _ => reg::gomxeli_reg_hub_push_next(s),
+    }
+}
+
+fn image_call(s: &mut [u8], op: u64, a: u32, b: u32) -> u64 {
+    match op {
+        70 => img::gomxeli_img_open(s),
+        71 => img::gomxeli_img_add_subject(s, a),
+        72 => img::gomxeli_img_remove_subject_range(s, a, b),
+        _ => img::gomxeli_img_has_subject(s, a),
+    }
+}
+
 // The last of `n` frame bytes is `last`.
 fn frame_call(n: u32, last: u32) -> u64 {
     let k = (n % 65) as usize;
@@ -138,7 +160,13 @@ fn write_answer(answer: u64) {
 }
 
 // Makes the line's call and writes its answer.
-fn answered(line: Line, lists: &mut [u8], keys: &mut [u8]) -> Line {
+fn answered(
+    line: Line,
+    lists: &mut [u8],
+    keys: &mut [u8],
+    registry: &mut [u8],
+    image: &mut [u8],
+) -> Line {
     let op = line.op;
     let a = low32(line.a);
     let b = low32(line.b);
@@ -151,14 +179,29 @@ fn answered(line: Line, lists: &mut [u8], keys: &mut [u8]) -> Line {
         write_answer(on_keys(keys, out.keys, op, a, b));
         return out;
     }
-    write_answer(frame_call(a, b));
+    if op < 60 {
+        write_answer(frame_call(a, b));
+        return out;
+    }
+    if op < 70 {
+        write_answer(registry_call(registry, op, a, b));
+        return out;
+    }
+    write_answer(image_call(image, op, a, b));
     out
 }
 
 // One more byte of the input.
-fn fed(b: u8, line: Line, lists: &mut [u8], keys: &mut [u8]) -> Line {
+fn fed(
+    b: u8,
+    line: Line,
+    lists: &mut [u8],
+    keys: &mut [u8],
+    registry: &mut [u8],
+    image: &mut [u8],
+) -> Line {
     if b == 10 {
-        return answered(line, lists, keys);
+        return answered(line, lists, keys, registry, image);
     }
     if b == 32 {
         return with_blank(line);
@@ -169,11 +212,18 @@ fn fed(b: u8, line: Line, lists: &mut [u8], keys: &mut [u8]) -> Line {
     with_digit(line, b - 48)
 }
 
-fn fed_all(chunk: &[u8], line: Line, lists: &mut [u8], keys: &mut [u8]) -> Line {
+fn fed_all(
+    chunk: &[u8],
+    line: Line,
+    lists: &mut [u8],
+    keys: &mut [u8],
+    registry: &mut [u8],
+    image: &mut [u8],
+) -> Line {
     let mut out = line;
     let mut i = 0;
     while i < chunk.len() {
-        out = fed(chunk[i], out, lists, keys);
+        out = fed(chunk[i], out, lists, keys, registry, image);
         i += 1;
     }
     out
@@ -183,6 +233,8 @@ fn fed_all(chunk: &[u8], line: Line, lists: &mut [u8], keys: &mut [u8]) -> Line 
 fn main() {
     let mut lists = [0u8; 514];
     let mut keys = [0u8; 9979];
+    let mut registry = [0u8; 1036];
+    let mut image = [0u8; 1024];
     let mut chunk = [0u8; 4096];
     let mut line = started(0, 0);
     let mut turns = u64::MAX;
@@ -191,7 +243,14 @@ fn main() {
         if n == 0 {
             break;
         }
-        line = fed_all(&chunk[..n], line, &mut lists, &mut keys);
+        line = fed_all(
+            &chunk[..n],
+            line,
+            &mut lists,
+            &mut keys,
+            &mut registry,
+            &mut image,
+        );
         turns -= 1;
     }
 }

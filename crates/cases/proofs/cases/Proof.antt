@@ -1,4 +1,4 @@
--- Every row is computed.
+-- Every row is computed, on bytes.
 use mathlib.Core.Path.{refl}
 use Rattle.state.specs.Seq.{allB, someB, each}
 use Rattle.multi_cycle_list.specs.Lists.{count, without}
@@ -8,14 +8,19 @@ use Rattle.index_entries.specs.Keys.{find}
 use Rattle.index_entries.specs.Bytes.{sizesB, listsB, wholeB}
 use Rattle.index_entries.specs.Laid.{words, longs, laid}
 use Rattle.index_queue.specs.Calls.{get, insert, remove, opening}
+use Rattle.entry_tree.specs.Places.{read as readTree, places, laid as laidTree}
+use Rattle.regular.specs.Registry.{wholeB as wholeRegistry}
+use Rattle.regular.specs.Bytes.{sizesB as sizesRegular, wholeB as wholeRegular, laid as laidRegular}
+use Rattle.regular.specs.Steps.{register, unregister, steps, pollPop, hubPushStart, hubPushNext}
+use Rattle.regular.specs.Calls.{opening as openingRegular}
 use Rattle.gomxeli.specs.Answers.{packed}
-use Rattle.gomxeli.specs.Calls.{run}
+use Rattle.gomxeli.specs.Calls.{run, left}
 use Rattle.cases.specs.Table.{table}
 use Rattle.cases.proofs.cases.Statement.{statement}
 use Rattle.cases.proofs.cases.Tie as tie
 
 returns : tie.Need-returns
-unfolding allB someB each count without trace traceEnd listOf listsOf linkedAt listSizes wholeList path arcs after before twos laidOut find sizesB listsB wholeB words longs laid get insert remove opening packed run table
+unfolding allB someB each count without trace traceEnd listOf listsOf linkedAt listSizes wholeList path arcs after before twos laidOut find sizesB listsB wholeB words longs laid get insert remove opening readTree places laidTree wholeRegistry sizesRegular wholeRegular laidRegular register unregister steps pollPop hubPushStart hubPushNext openingRegular packed run left table
 returns c = record { all = refl }
 
 pub cases-spec : {M : Type 1} → statement M

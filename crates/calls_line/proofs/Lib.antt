@@ -1,3 +1,4 @@
 pub mod ReadLaws
 pub mod PrintLaws
 pub mod WalkLaws
+pub mod WholeWalk

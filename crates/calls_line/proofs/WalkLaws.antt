@@ -50,7 +50,7 @@ next-short b = by-cond Short (wholeB b) {a = hubPushNext (read b)} {b = refuse (
 
 -- ---- the loop
 
-named-end : (n : ℕ) (b : List ℕ) → named n false b ≡ []
+pub named-end : (n : ℕ) (b : List ℕ) → named n false b ≡ []
 unfolding named
 named-end zero b = refl
 named-end (suc n) b = refl

@@ -1,12 +1,15 @@
 -- A line of the program `calls`: the call that it is, and what that makes of the registry's bytes and prints.
 -- Texts are ASCII codes: 10 ends a line, 32 is a blank, 48 to 57 are the digits.
-use Prim.Native.Nat.{ℕ, zero, suc, _+_, _-_, _*_, _/_, _%_}
-use mathlib.Core.List.{List, [], _∷_, _++_}
+use Prim.Native.Nat.{ℕ, zero, suc, _+_, _-_, _*_, _/_, _%_, _≤_}
+use mathlib.Core.Path.{_≡_}
+use mathlib.Core.List.{List, [], _∷_, _++_, map}
 use mathlib.Core.Bool.{Bool, true, false, cond, _&&_}
 use lib.Dec.{eqb, leb, ltb}
 use lib.ListN.{length, take, drop}
-use Rattle.state.specs.Result.{Result, refuse, answer}
+use Rattle.state.specs.Result.{Result, refuse, answer, Bytes}
+use Rattle.entry_tree.specs.Pairs.{Pair, onSubject}
 use Rattle.regular.specs.Registry.{Registry}
+use Rattle.regular.specs.Bytes.{wholeB, read}
 use Rattle.regular.specs.Steps.{register, unregister, pollPop, hubPushStart, hubPushNext}
 use Rattle.regular.specs.Calls.{on, bytes}
 use Rattle.regular.specs.declared.Answer.{Answer}
@@ -155,3 +158,15 @@ said b NoCall = once 63 b (refuse (Refused 17))
 -- the line on the bytes b
 abbrev pub does : List ℕ → List ℕ → Said
 does b line = said b (parsed line)
+
+-- ---- what is proved of it
+
+-- the entries on the subject x, in order
+abbrev pub entriesOn : ℕ → List Pair → List ℕ
+entriesOn x [] = []
+entriesOn x (p ∷ l) = cond (onSubject x p) (p .entry ∷ entriesOn x l) (entriesOn x l)
+
+-- on whole bytes a walk names every active entry on its subject: 128 are enough
+pub record WalkMeans : Type 0 where
+  pub all-named : (b : List ℕ) → Bytes b → wholeB b ≡ true → (x : ℕ) → x ≤ 8191
+      → (said b (Walk x)) .text ≡ printed 87 0 (map decimal (entriesOn x ((read b) .active)))

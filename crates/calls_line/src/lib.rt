@@ -12,7 +12,7 @@ use rx_msg::regular_inner::unregister;
 ghost use mathlib.Core.Path.{_≡_};
 ghost use mathlib.Core.List.{_++_};
 ghost use lib.ListN.{length, drop};
-ghost use Rattle.calls_line.specs.Lines.{does};
+ghost use Rattle.calls_line.specs.Lines.{does, WalkMeans};
 
 // The line `text` on the registry's bytes: the first bytes of `out` are what is printed, and the answer is how many.
 pub fn line(s: &mut [u8], text: &[u8], out: &mut [u8; 640]) -> usize
@@ -20,10 +20,15 @@ pub fn line(s: &mut [u8], text: &[u8], out: &mut [u8; 640]) -> usize
 {
     let call = parsing::parse(text);
     match call {
-        Call::Register(entry, subject) => say(out, 82, register(s, entry, subject)),
-        Call::Unregister(entry) => say(out, 85, unregister(s, entry)),
-        Call::Poll => say(out, 80, poll_pop(s)),
+        Call::Register(entry, subject) => say(out, b'R', register(s, entry, subject)),
+        Call::Unregister(entry) => say(out, b'U', unregister(s, entry)),
+        Call::Poll => say(out, b'P', poll_pop(s)),
         Call::Walk(subject) => walk(s, out, subject),
-        Call::NoCall => say(out, 63, Answer::Refused(17)),
+        Call::NoCall => say(out, b'?', Answer::Refused(17)),
     }
 }
+
+// What is proved of the definition: a walk on whole bytes names every active entry on its subject.
+pub fn meaning()
+    ensures { λ _. ⌜ WalkMeans ⌝ }
+{}

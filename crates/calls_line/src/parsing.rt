@@ -30,10 +30,10 @@ enum Last {
 fn is_digit(b: u8) -> bool
     ensures { λ r. ⌜ r ≡ isDigit b ⌝ }
 {
-    if b < 48 {
+    if b < b'0' {
         return false;
     }
-    b <= 57
+    b <= b'9'
 }
 
 // How many digits stand at `at`.
@@ -59,7 +59,7 @@ fn value(text: &[u8], at: usize, end: usize) -> u32
     let mut v = 0;
     let mut i = at;
     while i < end {
-        v = 10 * v + ((text[i] - 48) as u32);
+        v = 10 * v + ((text[i] - b'0') as u32);
         i += 1;
     }
     v
@@ -73,7 +73,7 @@ fn argument_at(text: &[u8], at: usize) -> Argument
     if at == text.len() {
         return Argument::Absent;
     }
-    if text[at] != 32 {
+    if text[at] != b' ' {
         return Argument::Absent;
     }
     let n = digits(text, at + 1);
@@ -153,15 +153,15 @@ pub fn parse(text: &[u8]) -> Call
         return Call::NoCall;
     }
     match text[0] {
-        82 => register_call(text),
-        85 => unregister_call(text),
-        80 => {
+        b'R' => register_call(text),
+        b'U' => unregister_call(text),
+        b'P' => {
             if n == 1 {
                 return Call::Poll;
             }
             Call::NoCall
         }
-        87 => walk_call(text),
+        b'W' => walk_call(text),
         _ => Call::NoCall,
     }
 }

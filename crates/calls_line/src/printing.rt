@@ -68,12 +68,12 @@ fn put_words(out: &mut [u8], at: usize, a: Answer) -> usize
         Answer::RemoveSubjectRange(x, y) => {
             let i = put(out, at, b" remove ");
             let k = put_number(out, i, x);
-            out[k] = 32;
+            out[k] = b' ';
             put_number(out, k + 1, y)
         }
         Answer::Nothing => put(out, at, b" nothing"),
         Answer::Pushed(e, _) => {
-            out[at] = 32;
+            out[at] = b' ';
             put_number(out, at + 1, e as u16)
         }
         _ => at,
@@ -86,7 +86,7 @@ fn put_head(out: &mut [u8], letter: u8, a: Answer) -> usize
     ensures { λ r. ⌜ (Put (now (out .entry)) 0 (letter ∷ spaced (decimal ((shown a) .number) ∷ [])) (now (out .exit)) r) × (r ≤ 7) ⌝ }
 {
     out[0] = letter;
-    out[1] = 32;
+    out[1] = b' ';
     put_number(out, 2, number(a) as u16)
 }
 
@@ -96,7 +96,7 @@ pub fn say(out: &mut [u8], letter: u8, a: Answer) -> usize
 {
     let i = put_head(out, letter, a);
     let k = put_words(out, i, a);
-    out[k] = 10;
+    out[k] = b'\n';
     k + 1
 }
 
@@ -125,8 +125,8 @@ pub fn walk(s: &mut [u8], out: &mut [u8], subject: u32) -> usize
     ensures { λ r. ⌜ (Put (now (out .entry)) 0 ((lines.walk (now (s .entry)) (on (hubPushStart subject) (now (s .entry)))) .text) (now (out .exit)) r) × ((now (s .exit) ≡ (lines.walk (now (s .entry)) (on (hubPushStart subject) (now (s .entry)))) .state) × (r ≤ 640)) ⌝ }
 {
     let a = hub_push_start(s, subject);
-    let i = put_head(out, 87, a);
+    let i = put_head(out, b'W', a);
     let k = put_names(s, out, i, more(a));
-    out[k] = 10;
+    out[k] = b'\n';
     k + 1
 }

@@ -42,7 +42,7 @@ pub record Gaps : Type 0 where
   pub lastGap : Bool
   pub more : ℕ
 
--- the head e of the subject x, next before q: does q get a mark
+-- the head e of the subject x leaves, and q comes next: does q get a mark
 abbrev pub newMark : ℕ → ℕ → Pair → List ℕ → Bool
 newMark e x q marks = (queued e marks || ltb x (q .subject)) && not (queued (q .entry) marks)
 

@@ -28,6 +28,8 @@ abbrev pub activated : List Pair → List Pair → Registered
 activated [] active = lists [] active
 activated (p ∷ waiting) active = cond (hasSubject (p .subject) active) (activated waiting (active ++ (p ∷ []))) (lists waiting (active ++ (p ∷ [])))
 
+-- ---- the same by an answer of the registry itself, for the laws call by call: the theorem of `regular_runs` cites what stands above
+
 abbrev pub isAccepted : Answer → Bool
 isAccepted (Refused n) = false
 isAccepted Done = false

@@ -24,23 +24,10 @@ unfolding allB
 all-false zero f k l h = absurd (not-suc-le-zero l)
 all-false (suc n) f k l h = elim (ℕ-discrete k n) [ yes e ↦ rw (subst (λ (j : ℕ). f j ≡ false) e h) | no ne ↦ rw (all-false n f k (omega arith) h, and-false) ]
 
-pub all-more-true : (k : ℕ) (f : ℕ → Bool) → f k ≡ true → allB (k + 1) f ≡ allB k f
-unfolding allB
-all-more-true k f h = rw (add-one, allB, h)
-
-pub all-more-false : (k : ℕ) (f : ℕ → Bool) → f k ≡ false → allB (k + 1) f ≡ false
-unfolding allB
-all-more-false k f h = rw (add-one, allB, h)
-
 pub all-at : (n : ℕ) (f : ℕ → Bool) → allB n f ≡ true → (k : ℕ) → k < n → f k ≡ true
 unfolding allB
 all-at zero f h k l = absurd (not-suc-le-zero l)
 all-at (suc n) f h k l = elim (ℕ-discrete k n) [ yes e ↦ rw e (and-l _ _ h) | no ne ↦ all-at n f (and-r (f n) _ h) k (omega arith) ]
-
-pub all-same : (n : ℕ) (f g : ℕ → Bool) → ((k : ℕ) → k < n → f k ≡ g k) → allB n f ≡ allB n g
-unfolding allB
-all-same zero f g h = refl
-all-same (suc n) f g h = rw (h n (omega arith), all-same n f g (λ k l. h k (omega arith)))
 
 -- ---- some
 

@@ -32,36 +32,49 @@ pub enum Gap {
     Last,
 }
 
+// A tree has the entry; a tree has an entry on the subject.
+fn has_entry(t: &[u8], entry: u8) -> bool
+    requires { ⌜ (length (now t) ≡ 385) × (size (now t) ≤ 128) ⌝ }
+    ensures { λ r. ⌜ r ≡ hasEntry «entry» (tree.read (now (t .entry))) ⌝ }
+{
+    let i = position(t, entry);
+    i < len(t)
+}
+
+fn has_subject(t: &[u8], subject: u16) -> bool
+    requires { ⌜ (length (now t) ≡ 385) × (size (now t) ≤ 128) ⌝ }
+    ensures { λ r. ⌜ r ≡ hasSubject subject (tree.read (now (t .entry))) ⌝ }
+{
+    let i = first_on(t, subject);
+    i < len(t)
+}
+
 pub fn is_active(s: &[u8], entry: u8) -> bool
     requires { ⌜ wholeB (now s) ≡ true ⌝ }
     ensures { λ r. ⌜ r ≡ hasEntry «entry» (read (now (s .entry)) .active) ⌝ }
 {
-    let i = position(&s[0..385], entry);
-    i < len(&s[0..385])
+    has_entry(&s[0..385], entry)
 }
 
 pub fn is_inactive(s: &[u8], entry: u8) -> bool
     requires { ⌜ wholeB (now s) ≡ true ⌝ }
     ensures { λ r. ⌜ r ≡ hasEntry «entry» (read (now (s .entry)) .inactive) ⌝ }
 {
-    let i = position(&s[385..770], entry);
-    i < len(&s[385..770])
+    has_entry(&s[385..770], entry)
 }
 
 pub fn on_active(s: &[u8], subject: u16) -> bool
     requires { ⌜ wholeB (now s) ≡ true ⌝ }
     ensures { λ r. ⌜ r ≡ hasSubject subject (read (now (s .entry)) .active) ⌝ }
 {
-    let i = first_on(&s[0..385], subject);
-    i < len(&s[0..385])
+    has_subject(&s[0..385], subject)
 }
 
 pub fn on_inactive(s: &[u8], subject: u16) -> bool
     requires { ⌜ wholeB (now s) ≡ true ⌝ }
     ensures { λ r. ⌜ r ≡ hasSubject subject (read (now (s .entry)) .inactive) ⌝ }
 {
-    let i = first_on(&s[385..770], subject);
-    i < len(&s[385..770])
+    has_subject(&s[385..770], subject)
 }
 
 pub fn slots(s: &[u8]) -> usize

@@ -1,48 +1,25 @@
 use borrow.Author.Needs.{needs}
 use native.Mathlib.Omega.{arith}
-use Rattle.entry_tree.specs.Pairs.{isEntry}
-use Rattle.regular.specs.Bytes.{inactivePart}
-use Rattle.regular_change.proofs.Looks.{known, found-is}
+use Rattle.regular_change.proofs.Looks.{known}
 use Rattle.regular_change.proofs.look.is_inactive.Statement.{statement}
 use Rattle.regular_change.proofs.look.is_inactive.Tie as tie
 
-sub-position : tie.Need-sub-position
-sub-position c = search needs
+sub-has-entry : tie.Need-sub-has-entry
+sub-has-entry c = search needs
 
-part-position-start : tie.Need-part-position-start
-part-position-start c = search needs
+part-has-entry-start : tie.Need-part-has-entry-start
+part-has-entry-start c = search needs
 
-part-position-end : tie.Need-part-position-end
-part-position-end c = omega (arith, known (c .before .args .s .now) (c .before .pre) .long)
+part-has-entry-end : tie.Need-part-has-entry-end
+part-has-entry-end c = omega (arith, known (c .before .args .s .now) (c .before .pre) .long)
 
-position-requires : tie.Need-position-requires
-position-requires c κs = let k = known (c .before .before .args .s .now) (c .before .before .pre) in (k .inactive-long, k .inactive-few)
-
-sub-len : tie.Need-sub-len
-sub-len c = search needs
-
-part-len-start : tie.Need-part-len-start
-part-len-start c = search needs
-
-part-len-end : tie.Need-part-len-end
-part-len-end c = omega (arith, known (c .before .before .before .args .s .now) (c .before .before .before .pre) .long)
-
-len-requires : tie.Need-len-requires
-len-requires c κs = known (c .before .before .before .before .args .s .now) (c .before .before .before .before .pre) .inactive-long
+has-entry-requires : tie.Need-has-entry-requires
+has-entry-requires c κs = let k = known (c .before .before .args .s .now) (c .before .before .pre) in (k .inactive-long, k .inactive-few)
 
 returns : tie.Need-returns
-returns c = found-is (inactivePart (c .before .before .before .before .before .args .s .now)) (isEntry (c .before .before .before .before .before .args .entry)) (c .before .before .position .result) (c .len .result) (c .before .before .position .ensures) (c .len .ensures .0)
+returns c = c .has-entry .ensures
 
 pub is-inactive-spec : {M : Type 1} → statement M
 is-inactive-spec =
     tie.close
-    (tie.spec
-    sub-position
-    part-position-start
-    part-position-end
-    position-requires
-    sub-len
-    part-len-start
-    part-len-end
-    len-requires
-    returns)
+    (tie.spec sub-has-entry part-has-entry-start part-has-entry-end has-entry-requires returns)

@@ -1,48 +1,30 @@
 use borrow.Author.Needs.{needs}
 use native.Mathlib.Omega.{arith}
-use Rattle.entry_tree.specs.Pairs.{onSubject}
-use Rattle.regular.specs.Bytes.{inactivePart}
-use Rattle.regular_change.proofs.Looks.{known, found-is}
+use Rattle.regular_change.proofs.Looks.{known}
 use Rattle.regular_change.proofs.look.on_inactive.Statement.{statement}
 use Rattle.regular_change.proofs.look.on_inactive.Tie as tie
 
-sub-first-on : tie.Need-sub-first-on
-sub-first-on c = search needs
+sub-has-subject : tie.Need-sub-has-subject
+sub-has-subject c = search needs
 
-part-first-on-start : tie.Need-part-first-on-start
-part-first-on-start c = search needs
+part-has-subject-start : tie.Need-part-has-subject-start
+part-has-subject-start c = search needs
 
-part-first-on-end : tie.Need-part-first-on-end
-part-first-on-end c = omega (arith, known (c .before .args .s .now) (c .before .pre) .long)
+part-has-subject-end : tie.Need-part-has-subject-end
+part-has-subject-end c = omega (arith, known (c .before .args .s .now) (c .before .pre) .long)
 
-first-on-requires : tie.Need-first-on-requires
-first-on-requires c κs = let k = known (c .before .before .args .s .now) (c .before .before .pre) in (k .inactive-long, k .inactive-few)
-
-sub-len : tie.Need-sub-len
-sub-len c = search needs
-
-part-len-start : tie.Need-part-len-start
-part-len-start c = search needs
-
-part-len-end : tie.Need-part-len-end
-part-len-end c = omega (arith, known (c .before .before .before .args .s .now) (c .before .before .before .pre) .long)
-
-len-requires : tie.Need-len-requires
-len-requires c κs = known (c .before .before .before .before .args .s .now) (c .before .before .before .before .pre) .inactive-long
+has-subject-requires : tie.Need-has-subject-requires
+has-subject-requires c κs = let k = known (c .before .before .args .s .now) (c .before .before .pre) in (k .inactive-long, k .inactive-few)
 
 returns : tie.Need-returns
-returns c = found-is (inactivePart (c .before .before .before .before .before .args .s .now)) (onSubject (c .before .before .before .before .before .args .subject)) (c .before .before .first-on .result) (c .len .result) (c .before .before .first-on .ensures) (c .len .ensures .0)
+returns c = c .has-subject .ensures
 
 pub on-inactive-spec : {M : Type 1} → statement M
 on-inactive-spec =
     tie.close
     (tie.spec
-    sub-first-on
-    part-first-on-start
-    part-first-on-end
-    first-on-requires
-    sub-len
-    part-len-start
-    part-len-end
-    len-requires
+    sub-has-subject
+    part-has-subject-start
+    part-has-subject-end
+    has-subject-requires
     returns)

@@ -13,11 +13,10 @@
 #include <time.h>
 
 #include "bench.h"
-#include "calls.h"
 #include "state_iq.h"
 #include "state_reg.h"
 
-enum { COPIES = 16, REPETITIONS = 200, MOST_BYTES = 10000 };
+enum { COPIES = 16, REPETITIONS = 200 };
 
 /* ------------------------------------------------------------------------ */
 /* Time                                                                     */
@@ -29,11 +28,6 @@ double now(void)
     clock_gettime(CLOCK_MONOTONIC, &time);
     return 1e9 * (double)time.tv_sec + (double)time.tv_nsec;
 }
-
-struct state {
-    size_t len;
-    uint8_t byte[MOST_BYTES];
-};
 
 /* Keeps what is measured from being left out. */
 static volatile uint64_t sink;
@@ -48,8 +42,7 @@ static gomxeli_answer pass(uint8_t *state, size_t len, const uint32_t *n)
     return sum;
 }
 
-/* Nanoseconds of a call on the state. */
-static double time_of(call_function *call, const struct state *state, const uint32_t *n)
+double time_of(call_function *call, const struct state *state, const uint32_t *n)
 {
     static uint8_t copies[COPIES][MOST_BYTES];
     double least = 1e18;
@@ -65,14 +58,18 @@ static double time_of(call_function *call, const struct state *state, const uint
     return least;
 }
 
+double pass_time_of(const struct state *state)
+{
+    return time_of(pass, state, NULL);
+}
+
 /* ------------------------------------------------------------------------ */
 /* Registries                                                               */
 /* ------------------------------------------------------------------------ */
 
 enum { ENTRIES = REGISTRY_ENTRIES };
 
-/* Entries in a scattered order, so that neighbours in a tree are none by number. */
-static unsigned nth_entry(unsigned i)
+unsigned nth_entry(unsigned i)
 {
     return i * 37 % ENTRIES;
 }
@@ -141,7 +138,10 @@ static void waiting_on_active(struct registry *registry, unsigned count)
     }
 }
 
-/* The same with half of them active on subjects of their own, and one waiting on each, the last subject first. */
+/*
+ * The same with half of them active on subjects of their own, and one waiting on each,
+ * the last subject first.
+ */
 static void waiting_on_each(struct registry *registry, unsigned count)
 {
     for (unsigned i = 0; i < count / 2; i++)
@@ -197,7 +197,7 @@ static void bench_registry(unsigned shape, unsigned count)
     build(shape, count < ENTRIES ? count : ENTRIES - 1, &with_room);
     unsigned new_entry = nth_entry(count < ENTRIES ? count : ENTRIES - 1);
     unsigned last_subject = nth_subject(count > 0 ? count - 1 : 0, true);
-    double time = time_of(pass, &state, NULL);
+    double time = pass_time_of(&state);
     printf("%-30s%4u%8.0f", shapes[shape].name, count, time);
     print_ratio(reg_unregister, &state, ENTRIES, 0, time);
     print_ratio(reg_register, &with_room, new_entry, 5, time);
@@ -227,7 +227,7 @@ static void bench_registries(void)
 static void print_row(const char *kind, const char *what, unsigned count, const struct state *state,
                       call_function *call)
 {
-    double time = time_of(pass, state, NULL);
+    double time = pass_time_of(state);
     printf("%-10s%-20s%4u%8.0f", kind, what, count, time);
     print_ratio(call, state, 0, 0, time);
     printf("\n");
@@ -268,6 +268,7 @@ static void bench_keys(unsigned k_max, unsigned entries)
 int main(void)
 {
     bench_registries();
+    bench_trees();
     printf("%-30s%4s%8s%11s\n", "queues, entries", "", "pass ns", "test alone");
     bench_lists(2, 0);
     bench_lists(2, 16);

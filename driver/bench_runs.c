@@ -1,9 +1,7 @@
 #include <stdbool.h>
-#include <stdint.h>
 #include <stdio.h>
 
 #include "bench.h"
-#include "gomxeli.h"
 
 enum { REPETITIONS = 60 };
 
@@ -11,7 +9,11 @@ enum { REPETITIONS = 60 };
 /* Ours and the Rust's calls                                                */
 /* ------------------------------------------------------------------------ */
 
-/* Polls answer what, walks whether an entry is pointed at or more follow. */
+/*
+ * Direct calls on both sides, so that neither has more around it. Polls answer whether
+ * there was an update, walks whether an entry is pointed at or more follow, pushes
+ * whether the service has an entry. What a kind has not is left out.
+ */
 struct calls {
     void (*open)(uint32_t slots);
     void (*enter)(uint32_t entry, uint32_t subject);
@@ -19,55 +21,92 @@ struct calls {
     bool (*poll)(void);
     bool (*start)(uint32_t subject);
     bool (*next)(void);
+    bool (*push)(uint32_t service);
 };
 
-static uint8_t state[GOMXELI_REG_LENGTH];
+static uint8_t reg[GOMXELI_REG_LENGTH], lb[GOMXELI_LB_LENGTH], req[GOMXELI_REQ_LENGTH];
 
-static void our_open(uint32_t slots)
+/* Registering and removing, and walking, of a kind whose state has its name. */
+#define ENTRIES_OF(kind) \
+    static void our_##kind##_register(uint32_t entry, uint32_t subject) \
+    { \
+        gomxeli_##kind##_register(kind, sizeof kind, entry, subject); \
+    } \
+    static void our_##kind##_unregister(uint32_t entry) \
+    { \
+        gomxeli_##kind##_unregister(kind, sizeof kind, entry); \
+    }
+#define WALKS_OF(kind) \
+    static bool our_##kind##_start(uint32_t subject) \
+    { \
+        return gomxeli_what(gomxeli_##kind##_hub_push_start(kind, sizeof kind, subject)) == 1; \
+    } \
+    static bool our_##kind##_next(void) \
+    { \
+        return gomxeli_second(gomxeli_##kind##_hub_push_next(kind, sizeof kind)) == 1; \
+    }
+
+ENTRIES_OF(reg)
+ENTRIES_OF(lb)
+ENTRIES_OF(req)
+WALKS_OF(reg)
+WALKS_OF(lb)
+
+static void our_reg_open(uint32_t slots)
 {
-    gomxeli_reg_open(state, sizeof state, slots);
+    gomxeli_reg_open(reg, sizeof reg, slots);
 }
 
-static void our_register(uint32_t entry, uint32_t subject)
+static void our_lb_open(uint32_t slots)
 {
-    gomxeli_reg_register(state, sizeof state, entry, subject);
+    (void)slots;
+    gomxeli_lb_open(lb, sizeof lb);
 }
 
-static void our_unregister(uint32_t entry)
+static void our_req_open(uint32_t slots)
 {
-    gomxeli_reg_unregister(state, sizeof state, entry);
+    (void)slots;
+    gomxeli_req_open(req, sizeof req);
 }
 
-static bool our_poll(void)
+static bool our_reg_poll(void)
 {
-    return gomxeli_what(gomxeli_reg_poll_pop(state, sizeof state)) != 0;
+    return gomxeli_what(gomxeli_reg_poll_pop(reg, sizeof reg)) != 0;
 }
 
-static bool our_start(uint32_t subject)
+static bool our_req_push(uint32_t service)
 {
-    return gomxeli_what(gomxeli_reg_hub_push_start(state, sizeof state, subject)) == 1;
+    return gomxeli_what(gomxeli_req_poll_push(req, sizeof req, service, 0)) == 1;
 }
 
-static bool our_next(void)
-{
-    return gomxeli_second(gomxeli_reg_hub_push_next(state, sizeof state)) == 1;
-}
+/* The calls of one side, which is a word that their names begin with. */
+#define REG_CALLS(side) \
+    {side##_reg_open, side##_reg_register, side##_reg_unregister, side##_reg_poll, \
+     side##_reg_start, side##_reg_next, NULL}
+#define LB_CALLS(side) \
+    {side##_lb_open, side##_lb_register, side##_lb_unregister, NULL, \
+     side##_lb_start, side##_lb_next, NULL}
+#define REQ_CALLS(side) \
+    {side##_req_open, side##_req_register, side##_req_unregister, NULL, NULL, NULL, \
+     side##_req_push}
 
-static const struct calls ours = {our_open, our_register, our_unregister,
-                                  our_poll, our_start,    our_next};
+enum { REG, LB, REQ, KINDS };
+
+static const struct calls ours[KINDS] = {REG_CALLS(our), LB_CALLS(our), REQ_CALLS(our)};
 
 #ifdef BENCH_RUST
 
-void rust_open(uint32_t slots);
-void rust_register(uint32_t entry, uint32_t subject);
-void rust_unregister(uint32_t entry);
-bool rust_poll(void);
-bool rust_start(uint32_t subject);
-bool rust_next(void);
+void rust_reg_open(uint32_t slots), rust_lb_open(uint32_t slots), rust_req_open(uint32_t slots);
+void rust_reg_register(uint32_t entry, uint32_t subject), rust_reg_unregister(uint32_t entry);
+void rust_lb_register(uint32_t entry, uint32_t subject), rust_lb_unregister(uint32_t entry);
+void rust_req_register(uint32_t entry, uint32_t service), rust_req_unregister(uint32_t entry);
+bool rust_reg_poll(void);
+bool rust_reg_start(uint32_t subject), rust_reg_next(void);
+bool rust_lb_start(uint32_t subject), rust_lb_next(void);
+bool rust_req_push(uint32_t service);
 
-static const struct calls rusts = {rust_open, rust_register, rust_unregister,
-                                   rust_poll, rust_start,    rust_next};
-static const struct calls *const rust = &rusts;
+static const struct calls rusts[KINDS] = {REG_CALLS(rust), LB_CALLS(rust), REQ_CALLS(rust)};
+static const struct calls *const rust = rusts;
 
 #else
 
@@ -79,42 +118,43 @@ static const struct calls *const rust = NULL;
 /* A run and its parts                                                      */
 /* ------------------------------------------------------------------------ */
 
-enum { PARTS = 5 };
-
-static const char *const parts[PARTS] = {"register", "poll the adds", "walk", "unregister",
-                                         "poll the removals"};
-
 /* Entries, each on its own subject or all on one. */
 struct run {
+    const struct calls *calls;
     unsigned count;
-    bool distinct;
+    unsigned stride;
 };
 
 static unsigned subject_of(const struct run *run, unsigned i)
 {
-    return run->distinct ? 10 + 20 * i : 10;
+    return 10 + run->stride * i;
 }
 
-static unsigned register_all(const struct calls *calls, const struct run *run)
+static unsigned subjects_of(const struct run *run)
+{
+    return run->stride > 0 ? run->count : 1;
+}
+
+static unsigned register_all(const struct run *run)
 {
     for (unsigned i = 0; i < run->count; i++)
-        calls->enter(i, subject_of(run, i));
+        run->calls->enter(i, subject_of(run, i));
     return run->count;
 }
 
-static unsigned poll_all(const struct calls *calls, const struct run *run)
+static unsigned poll_all(const struct run *run)
 {
     unsigned made = 1;
-    (void)run;
-    while (calls->poll())
+    while (run->calls->poll())
         made++;
     return made;
 }
 
-static unsigned walk_all(const struct calls *calls, const struct run *run)
+static unsigned walk_all(const struct run *run)
 {
+    const struct calls *calls = run->calls;
     unsigned made = 0;
-    for (unsigned i = 0; i < (run->distinct ? run->count : 1); i++) {
+    for (unsigned i = 0; i < subjects_of(run); i++) {
         made++;
         for (bool more = calls->start(subject_of(run, i)); more; more = calls->next())
             made++;
@@ -122,41 +162,81 @@ static unsigned walk_all(const struct calls *calls, const struct run *run)
     return made;
 }
 
-/* From both ends, so that marks come and go. */
-static unsigned unregister_all(const struct calls *calls, const struct run *run)
+static unsigned push_all(const struct run *run)
 {
     for (unsigned i = 0; i < run->count; i++)
-        calls->leave(i % 2 == 0 ? i / 2 : run->count - 1 - i / 2);
+        run->calls->push(subject_of(run, i));
     return run->count;
 }
 
-/* The least nanoseconds of a call in each part. */
-static void time_run(const struct calls *calls, const struct run *run, double *least)
+/* From both ends, so that marks come and go. */
+static unsigned unregister_all(const struct run *run)
 {
-    static unsigned (*const made[PARTS])(const struct calls *, const struct run *) = {
-        register_all, poll_all, walk_all, unregister_all, poll_all};
-    for (unsigned p = 0; p < PARTS; p++)
+    for (unsigned i = 0; i < run->count; i++)
+        run->calls->leave(i % 2 == 0 ? i / 2 : run->count - 1 - i / 2);
+    return run->count;
+}
+
+struct part {
+    const char *name;
+    unsigned (*made)(const struct run *run); /* answers how many calls */
+};
+
+enum { MOST_PARTS = 5 };
+
+static const struct part reg_parts[] = {{"register", register_all},
+                                        {"poll the adds", poll_all},
+                                        {"walk", walk_all},
+                                        {"unregister", unregister_all},
+                                        {"poll the removals", poll_all},
+                                        {NULL, NULL}};
+static const struct part lb_parts[] = {
+    {"register", register_all}, {"walk", walk_all}, {"unregister", unregister_all}, {NULL, NULL}};
+static const struct part req_parts[] = {
+    {"register", register_all}, {"push", push_all}, {"unregister", unregister_all}, {NULL, NULL}};
+
+/* ------------------------------------------------------------------------ */
+/* Kinds                                                                    */
+/* ------------------------------------------------------------------------ */
+
+static const struct kind {
+    const char *title;
+    const char *own;
+    unsigned stride;
+    bool shares; /* entries may be on one subject */
+    const struct part *parts;
+} kinds[KINDS] = {
+    [REG] = {"regular, entries", "own subjects", 20, true, reg_parts},
+    [LB] = {"loop-back, entries", "own subjects", 20, true, lb_parts},
+    [REQ] = {"requests, entries", "own services", 3, false, req_parts},
+};
+
+/* The least nanoseconds of a call in each part. */
+static void time_run(const struct part *parts, const struct run *run, double *least)
+{
+    for (unsigned p = 0; p < MOST_PARTS; p++)
         least[p] = 1e18;
     for (unsigned r = 0; r < REPETITIONS; r++) {
-        calls->open(run->count);
-        for (unsigned p = 0; p < PARTS; p++) {
+        run->calls->open(run->count);
+        for (unsigned p = 0; parts[p].name != NULL; p++) {
             double start = now();
-            unsigned count = made[p](calls, run);
+            unsigned count = parts[p].made(run);
             double time = (now() - start) / count;
             least[p] = time < least[p] ? time : least[p];
         }
     }
 }
 
-static void bench_run(const struct run *run)
+static void bench_run(unsigned k, unsigned count, unsigned stride)
 {
-    double our_times[PARTS], rust_times[PARTS];
-    time_run(&ours, run, our_times);
+    double our_times[MOST_PARTS], rust_times[MOST_PARTS];
+    const struct part *parts = kinds[k].parts;
+    time_run(parts, &(struct run){&ours[k], count, stride}, our_times);
     if (rust != NULL)
-        time_run(rust, run, rust_times);
-    for (unsigned p = 0; p < PARTS; p++) {
-        printf("%-18s%-18s%4u%10.0f", parts[p], run->distinct ? "own subjects" : "one subject",
-               run->count, our_times[p]);
+        time_run(parts, &(struct run){&rust[k], count, stride}, rust_times);
+    for (unsigned p = 0; parts[p].name != NULL; p++) {
+        printf("%-18s%-18s%4u%10.0f", parts[p].name, stride > 0 ? kinds[k].own : "one subject",
+               count, our_times[p]);
         if (rust != NULL)
             printf("%10.0f%10.1f", rust_times[p], our_times[p] / rust_times[p]);
         printf("\n");
@@ -165,9 +245,11 @@ static void bench_run(const struct run *run)
 
 void bench_runs(void)
 {
-    static const struct run runs[] = {{16, true}, {128, true}, {16, false}, {128, false}};
-    printf("%-40s%10s%s\n", "a run, entries", "ns a call",
-           rust == NULL ? "" : "   Rust ns     ratio");
-    for (unsigned i = 0; i < sizeof runs / sizeof runs[0]; i++)
-        bench_run(&runs[i]);
+    static const unsigned counts[] = {16, 128};
+    for (unsigned k = 0; k < KINDS; k++) {
+        printf("%-40s%10s%s\n", kinds[k].title, "ns a call",
+               rust == NULL ? "" : "   Rust ns     ratio");
+        for (unsigned i = 0; i < (kinds[k].shares ? 4 : 2); i++)
+            bench_run(k, counts[i % 2], i < 2 ? kinds[k].stride : 0);
+    }
 }

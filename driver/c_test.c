@@ -10,12 +10,14 @@
 static unsigned checks;
 static unsigned failed;
 
+/* Counts a check; false where it is one of the first that fail, which are said. */
 static bool count_check(bool holds)
 {
+    enum { MOST_SAID = 100 };
     checks++;
     if (!holds)
         failed++;
-    return holds;
+    return holds || failed > MOST_SAID;
 }
 
 void check(bool holds, const char *file, int line, const char *text)
@@ -31,7 +33,7 @@ bool has_parts(gomxeli_answer answer, unsigned number, unsigned what, unsigned f
            gomxeli_first(answer) == first && gomxeli_second(answer) == second;
 }
 
-static bool same_state(const struct state *a, const struct state *b)
+bool same_state(const struct state *a, const struct state *b)
 {
     return a->len == b->len && memcmp(a->byte, b->byte, a->len) == 0;
 }
@@ -53,14 +55,36 @@ static bool accepts(call_function *call, const struct state *state, const uint32
     return gomxeli_number(call(LENT(&lent), n)) == GOMXELI_ACCEPTED;
 }
 
-void check_steps(const char *what, struct state *state, const struct step *steps)
+void check_lengths(const struct state *whole, const struct tried *calls, unsigned number)
 {
-    for (unsigned i = 0; steps[i].call != NULL; i++) {
-        const struct step *step = &steps[i];
+    static struct state state;
+    state = *whole;
+    for (state.len = 0; state.len <= MOST_BYTES; state.len++) {
+        if (state.len == whole->len)
+            continue;
+        for (const struct tried *tried = calls; tried->call != NULL; tried++)
+            CHECK(refuses(tried->call, &state, tried->n, number));
+    }
+}
+
+static void check_steps(const struct run *run, struct state *state)
+{
+    for (unsigned i = 0; run->steps[i].call != NULL; i++) {
+        const struct step *step = &run->steps[i];
         gomxeli_answer answer = step->call(LENT(state), step->n);
         bool holds = has_parts(answer, step->number, step->what, step->first, step->second);
         if (!count_check(holds))
-            fprintf(stderr, "%s: step %u\n", what, i);
+            fprintf(stderr, "%s: step %u\n", run->what, i);
+    }
+}
+
+void check_runs(const struct run *runs, unsigned count, size_t len)
+{
+    static struct state state;
+    for (unsigned i = 0; i < count; i++) {
+        state.len = len;
+        memset(state.byte, 0xa5, state.len);
+        check_steps(&runs[i], &state);
     }
 }
 
@@ -95,6 +119,16 @@ void check_pairs(const struct pair *pairs, const struct state *whole,
     }
 }
 
+void check_meetings(const struct meeting *meetings, const struct state *whole)
+{
+    for (; meetings->what != NULL; meetings++) {
+        check(refuses(meetings->call, whole, meetings->both, meetings->wins), __FILE__, __LINE__,
+              meetings->what);
+        check(refuses(meetings->call, whole, meetings->mended, meetings->loses), __FILE__, __LINE__,
+              meetings->what);
+    }
+}
+
 void cut_last(struct state *state)
 {
     state->len--;
@@ -115,10 +149,13 @@ int main(void)
     test_leaves();
     test_reg();
     test_reg_whole();
+    test_lb();
+    test_req();
     test_img();
     test_filter();
     test_mcq();
     test_iq();
+    test_kinds();
     printf("c_test: %u checks, %u failed\n", checks, failed);
     return failed == 0 ? 0 : 1;
 }

@@ -14,10 +14,13 @@
 void test_leaves(void);
 void test_reg(void);
 void test_reg_whole(void);
+void test_lb(void);
+void test_req(void);
 void test_img(void);
 void test_filter(void);
 void test_mcq(void);
 void test_iq(void);
+void test_kinds(void);
 
 /* ------------------------------------------------------------------------ */
 /* Checks                                                                   */
@@ -57,8 +60,19 @@ struct state {
 /* The arguments that lend a state. */
 #define LENT(state) (state)->byte, (state)->len
 
+bool same_state(const struct state *a, const struct state *b);
+
 /* Whether the call is refused with the number and every byte stays. */
 bool refuses(call_function *call, const struct state *state, const uint32_t *n, unsigned number);
+
+/* A call, with numbers for which it is accepted on some state; a list ends with no call. */
+struct tried {
+    call_function *call;
+    uint32_t n[MOST_NUMBERS];
+};
+
+/* At each length but the state's own, from 0 past those of all kinds, they are refused. */
+void check_lengths(const struct state *whole, const struct tried *calls, unsigned number);
 
 /* ------------------------------------------------------------------------ */
 /* Steps                                                                    */
@@ -74,8 +88,15 @@ struct step {
 
 #define REFUSES(number) (number), 0, 0, 0
 
-/* Makes the calls, one after the other, on the state, up to a step without call. */
-void check_steps(const char *what, struct state *state, const struct step *steps);
+enum { MOST_STEPS = 32 };
+
+struct run {
+    const char *what;
+    struct step steps[MOST_STEPS]; /* up to one without call */
+};
+
+/* Makes the calls of each run, one after the other, on bytes of the length. */
+void check_runs(const struct run *runs, unsigned count, size_t len);
 
 /* ------------------------------------------------------------------------ */
 /* Doubly wrong calls                                                       */
@@ -112,6 +133,22 @@ struct breaking {
 /* Each pair with each way, ended by an entry with no name; 1 wins. */
 void check_pairs(const struct pair *pairs, const struct state *whole,
                  const struct breaking *breakings);
+
+/*
+ * Two refusals that meet on a whole state: the one that wins, and, with its reason
+ * mended, the other.
+ */
+struct meeting {
+    const char *what;
+    call_function *call;
+    uint32_t both[MOST_NUMBERS];
+    unsigned wins;
+    uint32_t mended[MOST_NUMBERS];
+    unsigned loses;
+};
+
+/* Ended by an entry with no name. */
+void check_meetings(const struct meeting *meetings, const struct state *whole);
 
 /* Ways that every kind has: one byte too few, one too many, none. */
 void cut_last(struct state *state);

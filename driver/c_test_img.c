@@ -3,8 +3,6 @@
 
 #include <string.h>
 
-static const uint32_t no_numbers[MOST_NUMBERS];
-
 /* Whether the image is exactly the subjects from first to last, or all but these. */
 static bool is_range(const uint8_t *image, unsigned first, unsigned last, bool but)
 {
@@ -81,19 +79,18 @@ static void test_ranges(void)
     }
 }
 
-/* The wrong lengths, with every call: those of states among them, and none. */
 static void test_lengths(void)
 {
+    static const struct tried calls[] = {
+        {img_open, {0}},
+        {img_add_subject, {0}},
+        {img_remove_subject_range, {0, 8191}},
+        {img_has_subject, {0}},
+        {NULL, {0}},
+    };
     static struct state image;
-    const uint32_t range[MOST_NUMBERS] = {0, 8191};
-    for (image.len = 0; image.len <= MOST_BYTES; image.len++) {
-        if (image.len == GOMXELI_IMG_LENGTH)
-            continue;
-        CHECK(refuses(img_open, &image, no_numbers, GOMXELI_BAD_IMAGE));
-        CHECK(refuses(img_add_subject, &image, no_numbers, GOMXELI_BAD_IMAGE));
-        CHECK(refuses(img_remove_subject_range, &image, range, GOMXELI_BAD_IMAGE));
-        CHECK(refuses(img_has_subject, &image, no_numbers, GOMXELI_BAD_IMAGE));
-    }
+    image.len = GOMXELI_IMG_LENGTH;
+    check_lengths(&image, calls, GOMXELI_BAD_IMAGE);
 }
 
 /* 3 with 4: 3. Any bytes of the length are an image, so the length is all that can be wrong. */

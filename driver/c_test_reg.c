@@ -1,8 +1,9 @@
 /* Regular message reception, call by call. */
-#include "c_test.h"
-
 #include <string.h>
 
+#define KIND reg
+#include "c_test_steps.h"
+#include "c_test_tree.h"
 #include "state_reg.h"
 
 /* ------------------------------------------------------------------------ */
@@ -26,28 +27,11 @@ static gomxeli_answer poll_all(uint8_t *state, size_t len, const uint32_t *n)
     return answer;
 }
 
-#define OPEN(slots) {reg_open, {slots}, 0, 0, 0, 0}
-#define R(entry, subject, wake) {reg_register, {entry, subject}, 0, wake, 0, 0}
-#define R_REFUSED(entry, subject, number) {reg_register, {entry, subject}, REFUSES(number)}
-#define U(entry, wake) {reg_unregister, {entry}, 0, wake, 0, 0}
-#define U_REFUSED(entry, number) {reg_unregister, {entry}, REFUSES(number)}
 #define ADD(subject) {reg_poll_pop, {0}, 0, 1, subject, 0}
 #define CUT(first, last) {reg_poll_pop, {0}, 0, 2, first, last}
 #define NOTHING {reg_poll_pop, {0}, 0, 0, 0, 0}
 #define POLL_ALL {poll_all, {0}, 0, 0, 0, 0}
-#define START(subject, found) {reg_hub_push_start, {subject}, 0, found, 0, 0}
-#define START_REFUSED(subject, number) {reg_hub_push_start, {subject}, REFUSES(number)}
-#define NAMES(entry, more) {reg_hub_push_next, {0}, 0, 1, entry, more}
-#define NAMES_NONE {reg_hub_push_next, {0}, 0, 0, 0, 0}
 #define SLOTS(count) {read_slots, {0}, 0, 0, count, 0}
-#define END {NULL, {0}, 0, 0, 0, 0}
-
-enum { MOST_STEPS = 32 };
-
-struct run {
-    const char *what;
-    struct step steps[MOST_STEPS];
-};
 
 /* ------------------------------------------------------------------------ */
 /* Document 01's cases                                                      */
@@ -143,16 +127,6 @@ static const struct run more_cases[] = {
       START_REFUSED(65536, GOMXELI_RANGE), START_REFUSED(UINT32_MAX, GOMXELI_RANGE), END}},
 };
 
-static void test_runs(const struct run *runs, unsigned count)
-{
-    static struct state state;
-    for (unsigned i = 0; i < count; i++) {
-        state.len = GOMXELI_REG_LENGTH;
-        memset(state.byte, 0xa5, state.len);
-        check_steps(runs[i].what, &state, runs[i].steps);
-    }
-}
-
 /* ------------------------------------------------------------------------ */
 /* Opening                                                                  */
 /* ------------------------------------------------------------------------ */
@@ -187,14 +161,6 @@ static void lay_opened(uint8_t *bytes, unsigned slots)
     bytes[SLOTS_AT] = (uint8_t)(slots % 256);
     bytes[SLOTS_AT + 1] = (uint8_t)(slots / 256);
     bytes[WALK_AT] = 255;
-}
-
-static void lay_place(uint8_t *bytes, unsigned tree, unsigned place, unsigned entry,
-                      unsigned subject)
-{
-    bytes[tree + 1 + 3 * place] = (uint8_t)entry;
-    bytes[tree + 2 + 3 * place] = (uint8_t)(subject % 256);
-    bytes[tree + 3 + 3 * place] = (uint8_t)(subject / 256);
 }
 
 static void lay_link(uint8_t *bytes, unsigned node, unsigned next)
@@ -339,8 +305,8 @@ static void test_full(unsigned stride)
 void test_reg(void)
 {
     test_open();
-    test_runs(cases, sizeof cases / sizeof cases[0]);
-    test_runs(more_cases, sizeof more_cases / sizeof more_cases[0]);
+    check_runs(cases, sizeof cases / sizeof cases[0], GOMXELI_REG_LENGTH);
+    check_runs(more_cases, sizeof more_cases / sizeof more_cases[0], GOMXELI_REG_LENGTH);
     test_bytes();
     test_silent_bytes();
     test_full(0);

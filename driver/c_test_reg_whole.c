@@ -142,15 +142,10 @@ static void apply(const struct damage *damage, struct state *state)
 /* ------------------------------------------------------------------------ */
 
 /* The calls that look at the state, with numbers for which they are accepted. */
-static const struct {
-    call_function *call;
-    uint32_t n[MOST_NUMBERS];
-} calls[] = {
+static const struct tried calls[] = {
     {reg_register, {9, 400}},    {reg_unregister, {0}},    {reg_poll_pop, {0}},
-    {reg_hub_push_start, {200}}, {reg_hub_push_next, {0}},
+    {reg_hub_push_start, {200}}, {reg_hub_push_next, {0}}, {NULL, {0}},
 };
-
-enum { CALLS = sizeof calls / sizeof calls[0] };
 
 static void test_damages(const struct state *whole)
 {
@@ -158,7 +153,7 @@ static void test_damages(const struct state *whole)
     for (unsigned i = 0; i < DAMAGES; i++) {
         state = *whole;
         apply(&damages[i], &state);
-        for (unsigned c = 0; c < CALLS; c++)
+        for (unsigned c = 0; calls[c].call != NULL; c++)
             check(refuses(calls[c].call, &state, calls[c].n, GOMXELI_NOT_WHOLE), __FILE__, __LINE__,
                   damages[i].what);
     }
@@ -170,7 +165,7 @@ static void test_no_damages(const struct state *whole)
     for (unsigned i = 0; i < NO_DAMAGES; i++) {
         state = *whole;
         apply(&no_damages[i], &state);
-        for (unsigned c = 0; c < CALLS; c++) {
+        for (unsigned c = 0; calls[c].call != NULL; c++) {
             lent = state;
             gomxeli_answer answer = calls[c].call(LENT(&lent), calls[c].n);
             check(gomxeli_number(answer) == GOMXELI_ACCEPTED, __FILE__, __LINE__,
@@ -193,63 +188,16 @@ static void test_past_places(bool active)
     CHECK(state.byte[tree] == 128);
     for (unsigned count = 129; count <= UINT8_MAX; count++) {
         state.byte[tree] = (uint8_t)count;
-        for (unsigned c = 0; c < CALLS; c++)
+        for (unsigned c = 0; calls[c].call != NULL; c++)
             CHECK(refuses(calls[c].call, &state, calls[c].n, GOMXELI_NOT_WHOLE));
     }
 }
 
-/* Every other length, those of all other kinds among them; for opening too. */
 static void test_lengths(const struct state *whole)
 {
-    static struct state state;
-    const uint32_t slots[MOST_NUMBERS] = {5, 0};
-    state = *whole;
-    for (state.len = 0; state.len <= MOST_BYTES; state.len++) {
-        if (state.len == GOMXELI_REG_LENGTH)
-            continue;
-        CHECK(refuses(reg_open, &state, slots, GOMXELI_NOT_WHOLE));
-        for (unsigned c = 0; c < CALLS; c++)
-            CHECK(refuses(calls[c].call, &state, calls[c].n, GOMXELI_NOT_WHOLE));
-    }
-}
-
-/* The other kinds' calls on a registry's bytes. */
-static void test_others(const struct state *whole)
-{
-    static const struct {
-        call_function *call;
-        uint32_t n[MOST_NUMBERS];
-        unsigned number;
-    } others[] = {
-        {mcq_open, {2, 128}, GOMXELI_NOT_WHOLE},
-        {mcq_open, {0, 1}, GOMXELI_SIZE},
-        {mcq_front, {0}, GOMXELI_NOT_WHOLE},
-        {mcq_back, {0}, GOMXELI_NOT_WHOLE},
-        {mcq_is_empty, {0}, GOMXELI_NOT_WHOLE},
-        {mcq_is_front, {0}, GOMXELI_NOT_WHOLE},
-        {mcq_is_back, {0}, GOMXELI_NOT_WHOLE},
-        {mcq_remove, {0}, GOMXELI_NOT_WHOLE},
-        {mcq_move_front, {0, 0}, GOMXELI_NOT_WHOLE},
-        {mcq_move_back, {0, 0}, GOMXELI_NOT_WHOLE},
-        {iq_open, {0, 128}, GOMXELI_NOT_WHOLE},
-        {iq_open, {8192, 0}, GOMXELI_SIZE},
-        {iq_contains, {0}, GOMXELI_NOT_WHOLE},
-        {iq_get, {0}, GOMXELI_NOT_WHOLE},
-        {iq_get_mut, {0, 1}, GOMXELI_NOT_WHOLE},
-        {iq_insert, {0, 1}, GOMXELI_NOT_WHOLE},
-        {iq_remove, {0}, GOMXELI_NOT_WHOLE},
-        {iq_front, {0}, GOMXELI_NOT_WHOLE},
-        {iq_back, {0}, GOMXELI_NOT_WHOLE},
-        {iq_enqueue_front, {0}, GOMXELI_NOT_WHOLE},
-        {iq_enqueue_back, {0}, GOMXELI_NOT_WHOLE},
-        {iq_dequeue, {0}, GOMXELI_NOT_WHOLE},
-        {img_open, {0}, GOMXELI_BAD_IMAGE},
-        {img_add_subject, {0}, GOMXELI_BAD_IMAGE},
-        {img_remove_subject_range, {0, 8191}, GOMXELI_BAD_IMAGE},
-        {img_has_subject, {0}, GOMXELI_BAD_IMAGE},
-    };
-    for (unsigned i = 0; i < sizeof others / sizeof others[0]; i++)
-        CHECK(refuses(others[i].call, whole, others[i].n, others[i].number));
+    static const struct tried opening[] = {{reg_open, {5}}, {NULL, {0}}};
+    check_lengths(whole, opening, GOMXELI_NOT_WHOLE);
+    check_lengths(whole, calls, GOMXELI_NOT_WHOLE);
 }
 
 /* ------------------------------------------------------------------------ */
@@ -289,17 +237,10 @@ static void test_pairs(const struct pair *pair, const struct state *whole)
 }
 
 /*
- * Two refusals that meet on a whole state, with no slot: the one that wins, and,
- * with its reason mended, the other.
+ * Of a state with no slot. 2 never meets 5, nor 8 9: an entry above 127 is not
+ * registered, and only a registered one can give a slot back.
  */
-static const struct {
-    const char *what;
-    call_function *call;
-    uint32_t both[MOST_NUMBERS];
-    unsigned wins;
-    uint32_t mended[MOST_NUMBERS];
-    unsigned loses;
-} meetings[] = {
+static const struct meeting meetings[] = {
     {"2 with 3", reg_register, {128, 8192}, GOMXELI_ENTRY_RANGE, {9, 8192}, GOMXELI_RANGE},
     {"2 with 6", reg_register, {128, 500}, GOMXELI_ENTRY_RANGE, {9, 500}, GOMXELI_NO_SUBJECT_SLOT},
     {"3 with 5", reg_register, {0, 8192}, GOMXELI_RANGE, {0, 100}, GOMXELI_REGISTERED},
@@ -307,21 +248,8 @@ static const struct {
     {"3 with 6", reg_register, {9, 8192}, GOMXELI_RANGE, {9, 8191}, GOMXELI_NO_SUBJECT_SLOT},
     {"5 with 6", reg_register, {0, 500}, GOMXELI_REGISTERED, {9, 500}, GOMXELI_NO_SUBJECT_SLOT},
     {"2 with 8", reg_unregister, {128}, GOMXELI_ENTRY_RANGE, {9}, GOMXELI_NOT_REGISTERED},
+    {NULL, NULL, {0}, 0, {0}, 0},
 };
-
-/*
- * 2 never meets 5, nor 8 9: an entry above 127 is not registered, and only a
- * registered one can give a slot back.
- */
-static void test_meetings(const struct state *whole)
-{
-    for (unsigned i = 0; i < sizeof meetings / sizeof meetings[0]; i++) {
-        check(refuses(meetings[i].call, whole, meetings[i].both, meetings[i].wins), __FILE__,
-              __LINE__, meetings[i].what);
-        check(refuses(meetings[i].call, whole, meetings[i].mended, meetings[i].loses), __FILE__,
-              __LINE__, meetings[i].what);
-    }
-}
 
 /* 1 with 3 at opening: 1, as in the table; there are no sizes whose length could be meant. */
 static void test_open_pair(void)
@@ -345,9 +273,8 @@ void test_reg_whole(void)
     test_past_places(true);
     test_past_places(false);
     test_lengths(&whole);
-    test_others(&whole);
     test_pairs(pairs, &whole);
     test_pairs(pairs_with_all_slots, &with_all_slots);
-    test_meetings(&whole);
+    check_meetings(meetings, &whole);
     test_open_pair();
 }

@@ -14,6 +14,17 @@ CALL(reg_poll_pop, state, len)
 CALL(reg_hub_push_start, state, len, n[0])
 CALL(reg_hub_push_next, state, len)
 
+CALL(lb_open, state, len)
+CALL(lb_register, state, len, n[0], n[1])
+CALL(lb_unregister, state, len, n[0])
+CALL(lb_hub_push_start, state, len, n[0])
+CALL(lb_hub_push_next, state, len)
+
+CALL(req_open, state, len)
+CALL(req_register, state, len, n[0], n[1])
+CALL(req_unregister, state, len, n[0])
+CALL(req_poll_push, state, len, n[0], (uint8_t)n[1])
+
 CALL(img_open, state, len)
 CALL(img_add_subject, state, len, n[0])
 CALL(img_remove_subject_range, state, len, n[0], n[1])

@@ -19,6 +19,10 @@ typedef gomxeli_answer call_function(uint8_t *state, size_t len, const uint32_t 
 call_function reg_open, reg_register, reg_unregister, reg_poll_pop, reg_hub_push_start,
     reg_hub_push_next;
 
+call_function lb_open, lb_register, lb_unregister, lb_hub_push_start, lb_hub_push_next;
+
+call_function req_open, req_register, req_unregister, req_poll_push;
+
 call_function img_open, img_add_subject, img_remove_subject_range, img_has_subject;
 
 call_function mcq_open, mcq_front, mcq_back, mcq_is_empty, mcq_is_front, mcq_is_back, mcq_remove,

@@ -21,7 +21,8 @@
 #include "lent.h"
 #include "random.h"
 
-static struct kind *const kinds[] = {&kind_reg, &kind_img, &kind_mcq, &kind_iq};
+static struct kind *const kinds[] = {&kind_reg, &kind_lb,  &kind_req,
+                                     &kind_img, &kind_mcq, &kind_iq};
 
 enum { KINDS = sizeof kinds / sizeof kinds[0] };
 
@@ -66,6 +67,17 @@ gomxeli_answer refuse_state(const struct call *call, const uint32_t *n)
     return refusal(GOMXELI_NOT_WHOLE);
 }
 
+void draw_no_sizes(uint32_t *n)
+{
+    (void)n;
+}
+
+void draw_no_numbers(const struct bytes *state, uint32_t *n)
+{
+    (void)state;
+    (void)n;
+}
+
 /* What the call answers, by document 01; the state becomes what the call leaves. */
 static gomxeli_answer expect(struct kind *kind, const struct call *call, bool whole,
                              struct bytes *state, const uint32_t *n)
@@ -74,11 +86,7 @@ static gomxeli_answer expect(struct kind *kind, const struct call *call, bool wh
         return kind->open(state, n);
     if (!whole)
         return kind->refuse(call, n);
-    kind->read(state->byte, kind->meaning);
-    gomxeli_answer expected = call->model(kind->meaning, n);
-    if (gomxeli_number(expected) == GOMXELI_ACCEPTED)
-        kind->lay(kind->meaning, state->byte);
-    return expected;
+    return model_expect(kind->model, call->model, state->byte, n);
 }
 
 static void print_bytes(const char *name, const struct bytes *bytes)
@@ -108,7 +116,7 @@ void try_call(struct kind *kind, struct call *call, enum origin origin, struct b
 {
     static struct bytes states[3];
     struct bytes *before = &states[0], *after = &states[1], *expected_after = &states[2];
-    bool whole = kind->whole(state->byte, state->len);
+    bool whole = kind->model->whole(state->byte, state->len);
 
     count_state(kind, origin, whole);
     copy_bytes(before, state);
@@ -123,7 +131,7 @@ void try_call(struct kind *kind, struct call *call, enum origin origin, struct b
 
     bool bytes_hold = guards_hold && same_bytes(after, expected_after);
     if (gomxeli_number(got) == GOMXELI_ACCEPTED)
-        bytes_hold = bytes_hold && kind->whole(after->byte, after->len);
+        bytes_hold = bytes_hold && kind->model->whole(after->byte, after->len);
     if (!judge(&call->tally, got, expected, bytes_hold))
         print_failure(call, n, got, expected, states);
     copy_bytes(state, expected_after);
@@ -153,8 +161,8 @@ void draw_whole(struct kind *kind, const uint32_t *n, struct bytes *state)
 {
     state->len = kind->length(n);
     random_bytes(state->byte, state->len);
-    kind->draw_meaning(n, kind->meaning);
-    kind->lay(kind->meaning, state->byte);
+    kind->draw_meaning(n, kind->model->meaning);
+    kind->model->lay(kind->model->meaning, state->byte);
 }
 
 /* A whole state of drawn sizes. */
@@ -175,7 +183,7 @@ void resize(struct bytes *state, size_t len)
 /* Lengths that the states of other kinds have or will have. */
 static size_t other_length(void)
 {
-    static const size_t to_come[] = {389, 385, 805, 677};
+    static const size_t to_come[] = {805, 677};
     enum { TO_COME = sizeof to_come / sizeof to_come[0] };
     uint32_t n[MOST_NUMBERS];
     unsigned pick = below(TO_COME + KINDS);

@@ -14,6 +14,7 @@
 #include <stdint.h>
 
 #include "calls.h"
+#include "model.h"
 #include "tally.h"
 
 /* Longer than any state, so that states that are too long can be lent too. */
@@ -28,8 +29,8 @@ struct bytes {
 struct call {
     struct tally tally;
     call_function *make;
-    /* The same on the kind's meaning, which a refusal leaves; NULL for the opening. */
-    gomxeli_answer (*model)(void *meaning, const uint32_t *n);
+    /* The same on the kind's meaning; NULL for the opening. */
+    model_call *model;
     /* Draws numbers for the call on a state of any bytes. */
     void (*draw)(const struct bytes *state, uint32_t *n);
 };
@@ -46,16 +47,10 @@ struct kind {
     /* What an opening does: its answer, and its bytes where it is accepted. */
     gomxeli_answer (*open)(struct bytes *state, const uint32_t *n);
 
-    /* Document 01's test, not the library's. */
-    bool (*whole)(const uint8_t *state, size_t len);
-
     /* What a call, but for the opening, answers on bytes that are not whole. */
     gomxeli_answer (*refuse)(const struct call *call, const uint32_t *n);
 
-    /* A meaning, read from whole bytes, and laid out over bytes of its length. */
-    void *meaning;
-    void (*read)(const uint8_t *state, void *meaning);
-    void (*lay)(const void *meaning, uint8_t *state);
+    const struct model *model;
 
     /* Draws any meaning of these sizes that document 01 allows. */
     void (*draw_meaning)(const uint32_t *n, void *meaning);
@@ -72,6 +67,8 @@ struct kind {
 };
 
 extern struct kind kind_reg;
+extern struct kind kind_lb;
+extern struct kind kind_req;
 extern struct kind kind_img;
 extern struct kind kind_mcq;
 extern struct kind kind_iq;
@@ -81,6 +78,10 @@ enum origin { RANDOM, DAMAGED, RESIZED, LAID, RUN, SWEPT, ORIGINS };
 
 /* The `refuse` of all kinds of state: 1. */
 gomxeli_answer refuse_state(const struct call *call, const uint32_t *n);
+
+/* The `draw_sizes` of kinds of one size, and the `draw` of calls without numbers. */
+void draw_no_sizes(uint32_t *n);
+void draw_no_numbers(const struct bytes *state, uint32_t *n);
 
 /*
  * Lends a copy of the state to a call and judges answer and bytes. The state

@@ -67,11 +67,6 @@ static gomxeli_answer refuse(const struct call *call, const uint32_t *n)
 
 static struct subjects plain_subjects;
 
-static void draw_sizes(uint32_t *n)
-{
-    (void)n;
-}
-
 static size_t length(const uint32_t *n)
 {
     (void)n;
@@ -114,12 +109,6 @@ static void draw_bytes(struct bytes *image)
 {
     image->len = 0;
     resize(image, GOMXELI_IMG_LENGTH + below(5) - 2);
-}
-
-static void draw_none(const struct bytes *image, uint32_t *n)
-{
-    (void)image;
-    (void)n;
 }
 
 static void draw_subject(const struct bytes *image, uint32_t *n)
@@ -193,7 +182,7 @@ static void sweep(void)
     {{"img_" #name, (outcomes) | REFUSED(GOMXELI_BAD_IMAGE), {0}}, img_##name, model, draw}
 
 static struct call calls[] = {
-    [OPEN] = CALL(open, PLAIN, NULL, draw_none),
+    [OPEN] = CALL(open, PLAIN, NULL, draw_no_numbers),
     [ADD] = CALL(add_subject, PLAIN | REFUSED(GOMXELI_RANGE), model_add_subject, draw_subject),
     [REMOVE] = CALL(remove_subject_range, PLAIN | REFUSED(GOMXELI_RANGE),
                     model_remove_subject_range, draw_range),
@@ -201,18 +190,17 @@ static struct call calls[] = {
         CALL(has_subject, PLAIN | SOME | REFUSED(GOMXELI_RANGE), model_has_subject, draw_subject),
 };
 
+static const struct model model = {whole_img, &plain_subjects, read_subjects, lay_subjects};
+
 struct kind kind_img = {
     .name = "img",
     .calls = calls,
     .call_count = sizeof calls / sizeof calls[0],
-    .draw_sizes = draw_sizes,
+    .draw_sizes = draw_no_sizes,
     .length = length,
     .open = open_plain,
-    .whole = whole_img,
     .refuse = refuse,
-    .meaning = &plain_subjects,
-    .read = read_subjects,
-    .lay = lay_subjects,
+    .model = &model,
     .draw_meaning = draw_meaning,
     .draw_bytes = draw_bytes,
     .sweep = sweep,

@@ -447,6 +447,8 @@ static struct call calls[] = {
     CALL(dequeue, PLAIN | REFUSED(GOMXELI_NO_KEY), model_dequeue, draw_key_value),
 };
 
+static const struct model model = {whole_iq, &plain_keys, read_keys, lay_keys};
+
 struct kind kind_iq = {
     .name = "iq",
     .calls = calls,
@@ -454,11 +456,8 @@ struct kind kind_iq = {
     .draw_sizes = draw_sizes,
     .length = length,
     .open = open_plain,
-    .whole = whole_iq,
     .refuse = refuse_state,
-    .meaning = &plain_keys,
-    .read = read_keys,
-    .lay = lay_keys,
+    .model = &model,
     .draw_meaning = draw_meaning,
     .draw_bytes = draw_bytes,
     .sweep = sweep,

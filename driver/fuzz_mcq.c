@@ -322,6 +322,8 @@ static struct call calls[] = {
     CALL(move_back, PLAIN, model_move_back, draw_both),
 };
 
+static const struct model model = {whole_mcq, &plain_lists, read_lists, lay_lists};
+
 struct kind kind_mcq = {
     .name = "mcq",
     .calls = calls,
@@ -329,11 +331,8 @@ struct kind kind_mcq = {
     .draw_sizes = draw_sizes,
     .length = length,
     .open = open_plain,
-    .whole = whole_mcq,
     .refuse = refuse_state,
-    .meaning = &plain_lists,
-    .read = read_lists,
-    .lay = lay_lists,
+    .model = &model,
     .draw_meaning = draw_meaning,
     .draw_bytes = draw_bytes,
     .sweep = sweep,

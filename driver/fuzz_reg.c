@@ -1,8 +1,7 @@
 /* Damaged input for regular message reception. */
-#include "fuzz.h"
-
 #include <string.h>
 
+#include "fuzz_tree.h"
 #include "model_reg.h"
 #include "random.h"
 #include "state_reg.h"
@@ -48,15 +47,9 @@ static void draw_open(const struct bytes *state, uint32_t *n)
     n[0] = number_near(MOST_SLOTS + 1);
 }
 
-/* Some used place of either tree, or where the bytes are too few a place of zeros. */
-static const uint8_t *some_place(const struct bytes *state)
+static size_t some_tree(void)
 {
-    static const uint8_t none[3] = {0, 0, 0};
-    size_t tree = one_in(2) ? ACTIVE_AT : INACTIVE_AT;
-    if (state->len < GOMXELI_REG_LENGTH)
-        return none;
-    unsigned count = state->byte[tree] < REGISTRY_ENTRIES ? state->byte[tree] : REGISTRY_ENTRIES;
-    return state->byte + tree + 1 + 3 * (size_t)(count > 0 ? below(count) : 0);
+    return one_in(2) ? ACTIVE_AT : INACTIVE_AT;
 }
 
 /* An entry that the walk or the clean-up queue names, or else some tree's. */
@@ -65,30 +58,19 @@ static uint32_t draw_named(const struct bytes *state)
     uint8_t walk = state->byte[WALK_AT];
     uint8_t first_marked = (uint8_t)(state->byte[QUEUES_AT + 2] - REGISTRY_CLASSES);
     uint8_t named = one_in(2) ? walk : first_marked;
-    return named < REGISTRY_ENTRIES ? named : some_place(state)[0];
+    return named < REGISTRY_ENTRIES ? named : some_place(state, some_tree())[0];
 }
 
 static uint32_t draw_entry(const struct bytes *state)
 {
     if (state->len < GOMXELI_REG_LENGTH || one_in(4))
         return number_near(REGISTRY_ENTRIES);
-    return one_in(2) ? draw_named(state) : some_place(state)[0];
+    return one_in(2) ? draw_named(state) : some_place(state, some_tree())[0];
 }
 
-/* Some entry's subject, one beside it, or one near the end. */
 static uint32_t draw_subject(const struct bytes *state)
 {
-    const uint8_t *place = some_place(state);
-    uint32_t subject = place[1] + 256u * place[2];
-    switch (below(8)) {
-    case 0:
-        return number_near(MOST_SUBJECT + 1);
-    case 1:
-    case 2:
-        return subject + below(3) - (subject > 0);
-    default:
-        return subject;
-    }
+    return draw_subject_of(state, some_tree(), MOST_SUBJECT);
 }
 
 static void draw_registration(const struct bytes *state, uint32_t *n)
@@ -105,12 +87,6 @@ static void draw_one_entry(const struct bytes *state, uint32_t *n)
 static void draw_one_subject(const struct bytes *state, uint32_t *n)
 {
     n[0] = draw_subject(state);
-}
-
-static void draw_none(const struct bytes *state, uint32_t *n)
-{
-    (void)state;
-    (void)n;
 }
 
 /* ------------------------------------------------------------------------ */
@@ -139,14 +115,6 @@ static void read_registry(const uint8_t *state, void *meaning)
 static void lay_registry(const void *meaning, uint8_t *state)
 {
     registry_lay(meaning, state);
-}
-
-/* Subjects that often meet and often are neighbours, or ones at the ends. */
-static unsigned draw_near_subject(unsigned from, unsigned span)
-{
-    if (one_in(8))
-        return one_in(2) ? below(3) : MOST_SUBJECT - below(3);
-    return (from + below(span)) % (MOST_SUBJECT + 1);
 }
 
 /* Whether a clean-up mark may stand at the active place. */
@@ -185,14 +153,14 @@ static void draw_meaning(const uint32_t *n, void *meaning)
 {
     struct registry *registry = meaning;
     uint8_t order[REGISTRY_ENTRIES];
-    unsigned count = one_in(4) ? random_size(REGISTRY_ENTRIES) : below(20);
+    unsigned count = draw_count();
     unsigned from = below(MOST_SUBJECT + 1);
-    unsigned span = 1 + below(one_in(4) ? MOST_SUBJECT : count + 1);
+    unsigned span = draw_span(count, MOST_SUBJECT);
     unsigned active_share = below(5);
     registry_clear(registry, n[0]);
     random_order(order, REGISTRY_ENTRIES);
     for (unsigned j = 0; j < count; j++) {
-        unsigned subject = draw_near_subject(from, span);
+        unsigned subject = draw_near_subject(from, span, MOST_SUBJECT);
         if (below(4) < active_share) {
             tree_insert(&registry->active, order[j], subject);
         } else {
@@ -208,54 +176,28 @@ static void draw_meaning(const uint32_t *n, void *meaning)
 /* Near misses: one thing of a whole state changed                          */
 /* ------------------------------------------------------------------------ */
 
-/* A byte that is changed to one of few values. */
-static void spoil_byte(struct bytes *state)
+static void spoil_some_byte(struct bytes *state)
 {
     static const uint16_t places[] = {ACTIVE_AT,     INACTIVE_AT, QUEUES_AT,
                                       QUEUES_AT + 1, LAST_GAP_AT, WALK_AT};
-    static const uint8_t values[] = {0, 1, 2, 3, 126, 127, 128, 129, 130, 255};
-    uint8_t *byte = &state->byte[places[below(sizeof places / sizeof places[0])]];
-    switch (below(3)) {
-    case 0:
-        *byte = values[below(sizeof values)];
-        break;
-    case 1:
-        (*byte)++;
-        break;
-    default:
-        (*byte)--;
-        break;
-    }
+    spoil_byte(state, places, sizeof places / sizeof places[0]);
 }
 
-/* A place has another entry, or another subject, often one at the end. */
-static void spoil_place(struct bytes *state)
+static void spoil_some_place(struct bytes *state)
 {
-    uint8_t *place = state->byte + (some_place(state) - state->byte);
-    uint32_t subject = one_in(4) ? MOST_SUBJECT + below(2) : draw_subject(state);
-    if (one_in(2)) {
-        place[0] = one_in(2) ? some_place(state)[0] : (uint8_t)number_near(REGISTRY_ENTRIES);
-        return;
-    }
-    place[1] = (uint8_t)(subject % 256);
-    place[2] = (uint8_t)(subject / 256);
+    spoil_place(state, some_tree(), some_tree(), MOST_SUBJECT);
 }
 
-static void swap_places(struct bytes *state)
+static void swap_some_places(struct bytes *state)
 {
-    uint8_t *a = state->byte + (some_place(state) - state->byte);
-    uint8_t *b = state->byte + (some_place(state) - state->byte);
-    uint8_t kept[3];
-    memcpy(kept, a, sizeof kept);
-    memmove(a, b, sizeof kept);
-    memcpy(b, kept, sizeof kept);
+    swap_places(state, some_tree(), some_tree());
 }
 
 /* An entry in another queue, or in another place of its own, or in none. */
 static void spoil_queues(struct bytes *state)
 {
     struct lists *queues = &plain_registry.queues;
-    unsigned entry = one_in(2) ? some_place(state)[0] : below(REGISTRY_ENTRIES);
+    unsigned entry = one_in(2) ? some_place(state, some_tree())[0] : below(REGISTRY_ENTRIES);
     unsigned cls = below(REGISTRY_CLASSES + 1);
     lists_remove(queues, entry);
     if (cls < REGISTRY_CLASSES)
@@ -280,8 +222,9 @@ static void spoil_all(struct bytes *state)
 
 static void draw_bytes(struct bytes *state)
 {
-    static void (*const ways[])(struct bytes *) = {spoil_byte,   spoil_place, swap_places,
-                                                   spoil_queues, spoil_link,  spoil_all};
+    static void (*const ways[])(struct bytes *) = {
+        spoil_some_byte, spoil_some_place, swap_some_places, spoil_queues, spoil_link, spoil_all,
+    };
     uint32_t n[MOST_NUMBERS] = {0};
     draw_slots(n);
     draw_whole(&kind_reg, n, state);
@@ -291,11 +234,6 @@ static void draw_bytes(struct bytes *state)
 /* ------------------------------------------------------------------------ */
 /* Sweeps                                                                   */
 /* ------------------------------------------------------------------------ */
-
-static struct call *call_in_turn(uint64_t at)
-{
-    return &kind_reg.calls[1 + at % (kind_reg.call_count - 1)];
-}
 
 /* Openings with all slots and some past, some with another length. */
 static void sweep_openings(void)
@@ -311,29 +249,8 @@ static void sweep_openings(void)
     }
 }
 
-/* Each byte of a whole state with each value. */
-static void sweep_bytes(void)
-{
-    static struct bytes whole, state;
-    uint64_t at = 0;
-    for (size_t byte = 0; byte < GOMXELI_REG_LENGTH; byte++) {
-        uint32_t n[MOST_NUMBERS] = {0};
-        draw_slots(n);
-        draw_whole(&kind_reg, n, &whole);
-        for (unsigned value = 0; value <= UINT8_MAX; value++, at++) {
-            if (!due())
-                continue;
-            state = whole;
-            state.byte[byte] = (uint8_t)value;
-            try_drawn(&kind_reg, call_in_turn(at), SWEPT, &state);
-        }
-    }
-}
-
-/* What an entry of a small state can be: not registered; active or waiting on one of these. */
-static const uint16_t small_subjects[] = {0, 1, 2, 8190, 8191};
-
-enum { SMALL_SUBJECTS = 5, SMALL_ROLES = 1 + 2 * SMALL_SUBJECTS, SMALL_ENTRIES = 3 };
+/* What an entry of a small state can be: not registered; active or waiting on a small subject. */
+enum { SMALL_ROLES = 1 + 2 * SMALL_SUBJECTS };
 
 /* Puts the entry in by its role, marked if so, whether that is whole or not. */
 static void add_small(struct registry *registry, unsigned entry, unsigned role, bool marked)
@@ -344,17 +261,9 @@ static void add_small(struct registry *registry, unsigned entry, unsigned role, 
     if (role == 0)
         return;
     tree_insert(active ? &registry->active : &registry->inactive, entry,
-                small_subjects[(role - 1) % SMALL_SUBJECTS]);
+                small_subject((role - 1) % SMALL_SUBJECTS, MOST_SUBJECT));
     if (!active && !marked)
         list_push_back(&registry->queues.list[ACTIVATION_CLASS], entry);
-}
-
-/* Takes a digit off a number. */
-static unsigned digit(uint32_t *rest, unsigned base)
-{
-    unsigned value = *rest % base;
-    *rest /= base;
-    return value;
 }
 
 /* All states of so few entries, with each set of marks, each flag and each walk. */
@@ -379,14 +288,14 @@ static void sweep_small(void)
         state.len = 0;
         resize(&state, GOMXELI_REG_LENGTH);
         registry_lay(&plain_registry, state.byte);
-        try_drawn(&kind_reg, call_in_turn(at / 3), SWEPT, &state);
+        try_drawn(&kind_reg, call_in_turn(&kind_reg, at / 3), SWEPT, &state);
     }
 }
 
 static void sweep(void)
 {
     sweep_openings();
-    sweep_bytes();
+    sweep_bytes(&kind_reg);
     sweep_small();
 }
 
@@ -402,16 +311,18 @@ static struct call calls[] = {
     CALL(register,
          PLAIN | SOME | REFUSED(GOMXELI_ENTRY_RANGE) | REFUSED(GOMXELI_RANGE) |
              REFUSED(GOMXELI_REGISTERED) | REFUSED(GOMXELI_NO_SUBJECT_SLOT),
-         model_register, draw_registration),
+         model_reg_register, draw_registration),
     CALL(unregister,
          PLAIN | SOME | REFUSED(GOMXELI_ENTRY_RANGE) | REFUSED(GOMXELI_NOT_REGISTERED) |
              REFUSED(GOMXELI_SLOTS_FULL),
-         model_unregister, draw_one_entry),
-    CALL(poll_pop, PLAIN | SOME | OTHER, model_poll_pop, draw_none),
-    CALL(hub_push_start, PLAIN | SOME | REFUSED(GOMXELI_RANGE), model_hub_push_start,
+         model_reg_unregister, draw_one_entry),
+    CALL(poll_pop, PLAIN | SOME | OTHER, model_reg_poll_pop, draw_no_numbers),
+    CALL(hub_push_start, PLAIN | SOME | REFUSED(GOMXELI_RANGE), model_reg_hub_push_start,
          draw_one_subject),
-    CALL(hub_push_next, PLAIN | SOME, model_hub_push_next, draw_none),
+    CALL(hub_push_next, PLAIN | SOME, model_reg_hub_push_next, draw_no_numbers),
 };
+
+static const struct model model = {whole_reg, &plain_registry, read_registry, lay_registry};
 
 struct kind kind_reg = {
     .name = "reg",
@@ -420,11 +331,8 @@ struct kind kind_reg = {
     .draw_sizes = draw_slots,
     .length = length,
     .open = open_plain,
-    .whole = whole_reg,
     .refuse = refuse_state,
-    .meaning = &plain_registry,
-    .read = read_registry,
-    .lay = lay_registry,
+    .model = &model,
     .draw_meaning = draw_meaning,
     .draw_bytes = draw_bytes,
     .sweep = sweep,

@@ -1,5 +1,6 @@
 #include "model_reg.h"
 
+#include "model_tree.h"
 #include "state_reg.h"
 
 struct branch reg_branches[REG_BRANCHES] = {
@@ -38,16 +39,6 @@ static struct list *activation(struct registry *registry)
     return &registry->queues.list[ACTIVATION_CLASS];
 }
 
-static bool has_entry(const struct tree *tree, unsigned entry)
-{
-    return tree_find(tree, entry) < tree->count;
-}
-
-static bool has_subject(const struct tree *tree, unsigned subject)
-{
-    return tree_first_on(tree, subject) < tree->count;
-}
-
 /* ------------------------------------------------------------------------ */
 /* Registering                                                              */
 /* ------------------------------------------------------------------------ */
@@ -58,21 +49,21 @@ static void wait_for(struct registry *registry, unsigned entry, unsigned subject
     list_push_back(activation(registry), entry);
 }
 
-gomxeli_answer model_register(void *meaning, const uint32_t *n)
+gomxeli_answer model_reg_register(void *meaning, const uint32_t *n)
 {
     struct registry *registry = meaning;
     if (n[0] > GOMXELI_REG_ENTRY_MAX)
         return refusal(GOMXELI_ENTRY_RANGE);
     if (n[1] > GOMXELI_SUBJECT_ID_MAX)
         return refusal(GOMXELI_RANGE);
-    if (has_entry(&registry->active, n[0]) || has_entry(&registry->inactive, n[0]))
+    if (tree_has_entry(&registry->active, n[0]) || tree_has_entry(&registry->inactive, n[0]))
         return refusal(GOMXELI_REGISTERED);
-    if (has_subject(&registry->inactive, n[1])) {
+    if (tree_has_subject(&registry->inactive, n[1])) {
         meet(JOINS_WAITING);
         wait_for(registry, n[0], n[1]);
         return yes_or_no(false);
     }
-    if (has_subject(&registry->active, n[1])) {
+    if (tree_has_subject(&registry->active, n[1])) {
         meet(JOINS_ACTIVE);
         tree_insert(&registry->active, n[0], n[1]);
         return yes_or_no(false);
@@ -95,9 +86,8 @@ static void move_walk(struct registry *registry, unsigned place)
     const struct tree *active = &registry->active;
     if (registry->walk != active->at[place].entry)
         return;
-    bool moves = place + 1 < active->count && !tree_is_head(active, place + 1);
-    meet(moves ? WALK_MOVES : WALK_ENDS);
-    registry->walk = moves ? active->at[place + 1].entry : (unsigned)NO_WALK;
+    registry->walk = walk_after(active, place, BEFORE_HEAD);
+    meet(registry->walk == NO_WALK ? WALK_ENDS : WALK_MOVES);
 }
 
 /* The active entry leaves; its mark, if any, is withdrawn. */
@@ -160,14 +150,14 @@ static gomxeli_answer remove_inactive(struct registry *registry, unsigned place)
     return yes_or_no(false);
 }
 
-gomxeli_answer model_unregister(void *meaning, const uint32_t *n)
+gomxeli_answer model_reg_unregister(void *meaning, const uint32_t *n)
 {
     struct registry *registry = meaning;
     if (n[0] > GOMXELI_REG_ENTRY_MAX)
         return refusal(GOMXELI_ENTRY_RANGE);
-    if (has_entry(&registry->active, n[0]))
+    if (tree_has_entry(&registry->active, n[0]))
         return remove_active(registry, tree_find(&registry->active, n[0]));
-    if (has_entry(&registry->inactive, n[0]))
+    if (tree_has_entry(&registry->inactive, n[0]))
         return remove_inactive(registry, tree_find(&registry->inactive, n[0]));
     return refusal(GOMXELI_NOT_REGISTERED);
 }
@@ -220,7 +210,7 @@ static struct endpoint activate_front(struct registry *registry)
     return endpoint;
 }
 
-gomxeli_answer model_poll_pop(void *meaning, const uint32_t *n)
+gomxeli_answer model_reg_poll_pop(void *meaning, const uint32_t *n)
 {
     struct registry *registry = meaning;
     (void)n;
@@ -245,28 +235,18 @@ gomxeli_answer model_poll_pop(void *meaning, const uint32_t *n)
 /* Walking                                                                  */
 /* ------------------------------------------------------------------------ */
 
-gomxeli_answer model_hub_push_start(void *meaning, const uint32_t *n)
+gomxeli_answer model_reg_hub_push_start(void *meaning, const uint32_t *n)
 {
     struct registry *registry = meaning;
-    const struct tree *active = &registry->active;
-    if (n[0] > GOMXELI_SUBJECT_ID_MAX)
-        return refusal(GOMXELI_RANGE);
-    bool found = has_subject(active, n[0]);
-    registry->walk = found ? active->at[tree_first_on(active, n[0])].entry : (unsigned)NO_WALK;
-    return yes_or_no(found);
+    return walk_start(&registry->active, &registry->walk, n[0]);
 }
 
-gomxeli_answer model_hub_push_next(void *meaning, const uint32_t *n)
+gomxeli_answer model_reg_hub_push_next(void *meaning, const uint32_t *n)
 {
     struct registry *registry = meaning;
-    const struct tree *active = &registry->active;
-    unsigned named = registry->walk;
+    gomxeli_answer named = walk_next(&registry->active, &registry->walk, BEFORE_HEAD);
     (void)n;
-    if (named == NO_WALK)
-        return done();
-    unsigned next = tree_find(active, named) + 1;
-    bool more = next < active->count && !tree_is_head(active, next);
-    meet(more ? NAMES_MORE : NAMES_LAST);
-    registry->walk = more ? active->at[next].entry : (unsigned)NO_WALK;
-    return answer(GOMXELI_ACCEPTED, 1, named, more);
+    if (gomxeli_what(named) == 1)
+        meet(gomxeli_second(named) == 1 ? NAMES_MORE : NAMES_LAST);
+    return named;
 }

@@ -1,18 +1,12 @@
-/*
- * The calls of regular message reception on their plain meaning, a `struct
- * registry`: written from document 01's words, apart from the library. Where a call
- * is refused, the meaning is not to be used.
- */
+/* The calls of regular message reception on a `struct registry`. */
 #ifndef MODEL_REG_H
 #define MODEL_REG_H
 
+#include "model.h"
 #include "tally.h"
 
-gomxeli_answer model_register(void *meaning, const uint32_t *n);
-gomxeli_answer model_unregister(void *meaning, const uint32_t *n);
-gomxeli_answer model_poll_pop(void *meaning, const uint32_t *n);
-gomxeli_answer model_hub_push_start(void *meaning, const uint32_t *n);
-gomxeli_answer model_hub_push_next(void *meaning, const uint32_t *n);
+model_call model_reg_register, model_reg_unregister, model_reg_poll_pop, model_reg_hub_push_start,
+    model_reg_hub_push_next;
 
 /* Document 01's cases, each counted where it is met. */
 enum reg_branch {

@@ -23,6 +23,8 @@ struct kind {
 
 static struct kind kinds[] = {
     {"reg", reg_verbs, {NULL, 0}},
+    {"lb", lb_verbs, {NULL, 0}},
+    {"req", req_verbs, {NULL, 0}},
     {"img", img_verbs, {NULL, 0}},
     {"mcq", mcq_verbs, {NULL, 0}},
     {"iq", iq_verbs, {NULL, 0}},

@@ -38,6 +38,8 @@ struct verb {
 
 /* The tables, each ended by a verb with no word. */
 extern const struct verb reg_verbs[];
+extern const struct verb lb_verbs[];
+extern const struct verb req_verbs[];
 extern const struct verb img_verbs[];
 extern const struct verb mcq_verbs[];
 extern const struct verb iq_verbs[];

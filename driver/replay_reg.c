@@ -2,7 +2,7 @@
 #include <inttypes.h>
 #include <stdio.h>
 
-#include "replay.h"
+#include "replay_tree.h"
 #include "state_reg.h"
 
 static void run_open(struct state *state, const uint32_t *n)
@@ -13,12 +13,6 @@ static void run_open(struct state *state, const uint32_t *n)
 /* ------------------------------------------------------------------------ */
 /* Answers                                                                  */
 /* ------------------------------------------------------------------------ */
-
-static void print_wake(gomxeli_answer answer)
-{
-    if (!print_refusal(answer))
-        printf("0 w%u", gomxeli_what(answer));
-}
 
 /* A poll never wakes. */
 static void print_update(gomxeli_answer answer)
@@ -39,32 +33,9 @@ static void print_update(gomxeli_answer answer)
     }
 }
 
-static void print_named(gomxeli_answer answer)
-{
-    if (print_refusal(answer))
-        return;
-    if (gomxeli_what(answer) == 0)
-        printf("0 - 0");
-    else
-        printf("0 %u %" PRIu32, (unsigned)gomxeli_first(answer), gomxeli_second(answer));
-}
-
-/* A whole walk; there are no more steps in it than entries. */
 static void run_walk(struct state *state, const uint32_t *n)
 {
-    uint8_t named[REGISTRY_ENTRIES];
-    unsigned count = 0;
-    gomxeli_answer answer = reg_hub_push_start(state->bytes, state->len, n);
-    bool more = gomxeli_what(answer) == 1;
-    if (print_refusal(answer))
-        return;
-    while (more && count < REGISTRY_ENTRIES) {
-        answer = reg_hub_push_next(state->bytes, state->len, n);
-        named[count++] = (uint8_t)gomxeli_first(answer);
-        more = gomxeli_second(answer) == 1;
-    }
-    printf("0 ");
-    print_list(named, count);
+    print_walk(state, n, reg_hub_push_start, reg_hub_push_next);
 }
 
 /* ------------------------------------------------------------------------ */
@@ -83,37 +54,22 @@ static void print_active(const struct registry *registry)
     }
 }
 
-static void print_inactive(const struct tree *tree)
-{
-    printf(" inact=%s", tree->count == 0 ? "-" : "");
-    for (unsigned i = 0; i < tree->count; i++)
-        printf("%s%u:%u", i == 0 ? "" : ",", (unsigned)tree->at[i].entry,
-               (unsigned)tree->at[i].subject);
-}
-
 static void print_registry(const struct registry *registry)
 {
-    printf("slots=%u last=%u walk=", registry->slots, (unsigned)registry->last_gap);
-    if (registry->walk == NO_WALK)
-        printf("-");
-    else
-        printf("%u", registry->walk);
+    printf("slots=%u last=%u ", registry->slots, (unsigned)registry->last_gap);
+    print_walk_entry(registry->walk);
     print_active(registry);
-    print_inactive(&registry->inactive);
+    print_pairs(" inact", &registry->inactive);
     print_entries("aq", &registry->queues.list[ACTIVATION_CLASS]);
     print_entries("cq", &registry->queues.list[CLEAN_UP_CLASS]);
 }
 
-/* An entry out of range is refused for that where the bytes are whole. */
 static void run_read_back(struct state *state, const uint32_t *n)
 {
     static struct registry registry;
     (void)n;
-    gomxeli_answer answer = gomxeli_reg_unregister(state->bytes, state->len, UINT32_MAX);
-    if (gomxeli_number(answer) != GOMXELI_ENTRY_RANGE) {
-        print_refusal(answer);
+    if (print_not_whole(state, reg_unregister))
         return;
-    }
     registry_read(state->bytes, &registry);
     print_registry(&registry);
 }

@@ -14,47 +14,6 @@ struct registry_parts {
     unsigned walk;
 };
 
-static unsigned count_of(const uint8_t *tree)
-{
-    return tree[0];
-}
-
-static unsigned entry_at(const uint8_t *tree, unsigned place)
-{
-    return tree[1 + 3 * place];
-}
-
-static unsigned subject_at(const uint8_t *tree, unsigned place)
-{
-    return tree[2 + 3 * place] + 256u * tree[3 + 3 * place];
-}
-
-static bool fits(const uint8_t *tree)
-{
-    for (unsigned i = 0; i < count_of(tree); i++)
-        if (entry_at(tree, i) > 127 || subject_at(tree, i) > 8191)
-            return false;
-    return true;
-}
-
-static bool is_ordered(const uint8_t *tree)
-{
-    for (unsigned i = 0; i < count_of(tree); i++)
-        for (unsigned j = i + 1; j < count_of(tree); j++)
-            if (subject_at(tree, i) > subject_at(tree, j))
-                return false;
-    return true;
-}
-
-static unsigned times_in(const uint8_t *tree, unsigned entry)
-{
-    unsigned times = 0;
-    for (unsigned i = 0; i < count_of(tree); i++)
-        if (entry_at(tree, i) == entry)
-            times++;
-    return times;
-}
-
 /* No entry twice, and each in the queues that its tree allows it. */
 static bool entries_agree(const struct registry_parts *parts)
 {
@@ -100,14 +59,9 @@ static bool last_gap_agrees(const struct registry_parts *parts)
     return !parts->last_gap || count == 0 || subject_at(parts->active, count - 1) < 8191;
 }
 
-static bool walk_agrees(const struct registry_parts *parts)
-{
-    return parts->walk > 127 || times_in(parts->active, parts->walk) > 0;
-}
-
 bool whole_reg(const uint8_t *state, size_t len)
 {
-    if (len != 1036 || state[0] > 128 || state[385] > 128 || state[770] != 2 || state[771] != 128)
+    if (len != 1036 || state[770] != 2 || state[771] != 128)
         return false;
     const uint8_t *nodes = state + 772;
     struct registry_parts parts = {
@@ -116,13 +70,13 @@ bool whole_reg(const uint8_t *state, size_t len)
         .last_gap = state[1034] != 0,
         .walk = state[1035],
     };
-    if (!whole_cycles(nodes, 2, 128))
+    if (!whole_tree(parts.active, 8191) || !whole_tree(parts.inactive, 8191) ||
+        !whole_cycles(nodes, 2, 128))
         return false;
     mark_class(nodes, 2, 0, parts.cleaned);
     mark_class(nodes, 2, 1, parts.activated);
-    return fits(parts.active) && fits(parts.inactive) && is_ordered(parts.active) &&
-           is_ordered(parts.inactive) && entries_agree(&parts) && marks_agree(&parts) &&
-           last_gap_agrees(&parts) && walk_agrees(&parts);
+    return entries_agree(&parts) && marks_agree(&parts) && last_gap_agrees(&parts) &&
+           whole_walk(parts.active, parts.walk);
 }
 
 bool whole_img(const uint8_t *image, size_t len)

@@ -1,7 +1,7 @@
 /*
  * gomxeli.h: registries and queues for a Cyphal/CAN node, over lent bytes. So far
- * regular message reception, the filter image, the lists, the key queues, the
- * identifiers, sets of priorities and the tail byte.
+ * regular and loop-back message reception, requests, the filter image, the lists,
+ * the key queues, the identifiers, sets of priorities and the tail byte.
  *
  * The functions are written and proved in Rattle. `rt staticlib gomxeli` puts
  * them into target/staticlib/libgomxeli.a; a program includes this header and
@@ -271,6 +271,150 @@ gomxeli_answer gomxeli_img_remove_subject_range(uint8_t *image, size_t len, uint
  * GOMXELI_BAD_IMAGE  len is not GOMXELI_IMG_LENGTH
  */
 gomxeli_answer gomxeli_img_has_subject(const uint8_t *image, size_t len, uint32_t subject);
+
+/* ------------------------------------------------------------------------ */
+/* Loop-back message reception: LoopBackInner                               */
+/* ------------------------------------------------------------------------ */
+
+/*
+ * Endpoints that hear the messages which this node itself has sent. An entry is a
+ * number from 0 to 127 that the caller chooses; registered, it has one subject, and
+ * several entries may have the same. The registered entries stand in one list, by
+ * subject, those of one subject in the order of registering. No filter is asked, so
+ * no entry waits and no call wakes.
+ *
+ * A walk names entries one by one. It starts at the first entry of a subject and
+ * goes on to the end of the list, whatever the subject: unlike a regular walk it
+ * does not end with its own. A driver that wants the entries of the frame's subject
+ * alone leaves the others out.
+ *
+ *     static uint8_t lb[GOMXELI_LB_LENGTH];
+ *
+ *     gomxeli_lb_open(lb, sizeof lb);
+ *     gomxeli_lb_register(lb, sizeof lb, 0, 100);
+ *     gomxeli_lb_register(lb, sizeof lb, 1, 200);
+ *
+ *     // a frame of this node comes back
+ *     gomxeli_answer a = gomxeli_lb_hub_push_start(lb, sizeof lb, 100);
+ *     for (bool more = gomxeli_what(a) == 1; more; more = gomxeli_second(a) == 1) {
+ *         a = gomxeli_lb_hub_push_next(lb, sizeof lb);
+ *         deliver(gomxeli_first(a));           // entry 0, then entry 1
+ *     }
+ */
+#define GOMXELI_LB_ENTRY_MAX 127
+
+/* The length of a state. */
+#define GOMXELI_LB_LENGTH ((size_t)389)
+
+/*
+ * Opens a state: no entries, no walk. Writes every byte and looks at none.
+ *
+ * GOMXELI_NOT_WHOLE  len is not GOMXELI_LB_LENGTH
+ */
+gomxeli_answer gomxeli_lb_open(uint8_t *state, size_t len);
+
+/*
+ * Registers an entry on a subject, after the entries that the subject has. The walk
+ * does not move.
+ *
+ * GOMXELI_NOT_WHOLE
+ * GOMXELI_ENTRY_RANGE  entry above 127
+ * GOMXELI_RANGE        subject above 8,191
+ * GOMXELI_REGISTERED   the entry is registered already
+ */
+gomxeli_answer gomxeli_lb_register(uint8_t *state, size_t len, uint32_t entry, uint32_t subject);
+
+/*
+ * Removes an entry. A walk that points at it moves on to the next entry of the list,
+ * whatever its subject, or ends.
+ *
+ * GOMXELI_NOT_WHOLE
+ * GOMXELI_ENTRY_RANGE     entry above 127
+ * GOMXELI_NOT_REGISTERED  the entry is not registered
+ */
+gomxeli_answer gomxeli_lb_unregister(uint8_t *state, size_t len, uint32_t entry);
+
+/*
+ * Points the walk at the first entry of a subject, or ends it.
+ * what 1: an entry is pointed at. what 0: the subject has no entry.
+ *
+ * GOMXELI_NOT_WHOLE
+ * GOMXELI_RANGE      subject above 8,191
+ */
+gomxeli_answer gomxeli_lb_hub_push_start(uint8_t *state, size_t len, uint32_t subject);
+
+/*
+ * Names the entry that the walk points at, and moves on to the next of the list,
+ * whatever its subject.
+ * what 1: first is the entry, second is 1 if more follow, 0 if not. what 0: the
+ * walk points at none, and nothing changes.
+ *
+ * GOMXELI_NOT_WHOLE
+ */
+gomxeli_answer gomxeli_lb_hub_push_next(uint8_t *state, size_t len);
+
+/* ------------------------------------------------------------------------ */
+/* Requests                                                                 */
+/* ------------------------------------------------------------------------ */
+
+/*
+ * Endpoints that serve requests. An entry is a number from 0 to 127 that the caller
+ * chooses; registered, it has one service, and no other entry has the same. A frame
+ * is for the one entry of its service; a loop-back frame is for none.
+ *
+ *     static uint8_t req[GOMXELI_REQ_LENGTH];
+ *
+ *     gomxeli_req_open(req, sizeof req);
+ *     gomxeli_req_register(req, sizeof req, 3, 430);
+ *
+ *     // a request of a service
+ *     gomxeli_answer a = gomxeli_req_poll_push(req, sizeof req, 430, 0);
+ *     if (gomxeli_number(a) == GOMXELI_ACCEPTED && gomxeli_what(a) == 1)
+ *         deliver(gomxeli_first(a));           // entry 3
+ */
+#define GOMXELI_REQ_ENTRY_MAX 127
+
+/* The length of a state. */
+#define GOMXELI_REQ_LENGTH ((size_t)385)
+
+/*
+ * Opens a state: no entries. Writes every byte and looks at none.
+ *
+ * GOMXELI_NOT_WHOLE  len is not GOMXELI_REQ_LENGTH
+ */
+gomxeli_answer gomxeli_req_open(uint8_t *state, size_t len);
+
+/*
+ * Registers an entry on a service.
+ *
+ * GOMXELI_NOT_WHOLE
+ * GOMXELI_ENTRY_RANGE  entry above 127
+ * GOMXELI_RANGE        service above 511
+ * GOMXELI_REGISTERED   the entry is registered already
+ * GOMXELI_OCCUPIED     the service has an entry
+ */
+gomxeli_answer gomxeli_req_register(uint8_t *state, size_t len, uint32_t entry, uint32_t service);
+
+/*
+ * Removes an entry; its service has none then.
+ *
+ * GOMXELI_NOT_WHOLE
+ * GOMXELI_ENTRY_RANGE     entry above 127
+ * GOMXELI_NOT_REGISTERED  the entry is not registered
+ */
+gomxeli_answer gomxeli_req_unregister(uint8_t *state, size_t len, uint32_t entry);
+
+/*
+ * The entry that a frame of a service is for. It is a loop-back frame where loop_back
+ * is not 0. Changes nothing.
+ * what 1: first is the entry. what 0: the service has no entry, or it is a loop-back
+ * frame.
+ *
+ * GOMXELI_NOT_WHOLE
+ * GOMXELI_RANGE      service above 511, of a loop-back frame too
+ */
+gomxeli_answer gomxeli_req_poll_push(const uint8_t *state, size_t len, uint32_t service,
+                                     uint8_t loop_back);
 
 /* ------------------------------------------------------------------------ */
 /* Lists: MultiClassQueue                                                   */

@@ -1,19 +1,49 @@
-//! Sequences at the regular registry's limits: all 128 entries inactive, active, on one subject or each on its own, as many marks as
-//! there can be, walks over all with removals under way, and the ends of the subjects.
+//! Sequences at the registries' limits. The regular registry's: all 128 entries inactive, active, on
+//! one subject or each on its own, as many marks as there can be, walks over all with removals under
+//! way, and the ends of the subjects. The others': what they have of these.
 
 use crate::pair::{Call, Size};
+use crate::registry::ALL;
 use crate::regular::{
     self, HUB_PUSH_NEXT, HUB_PUSH_START, OPEN, POLL_POP, REGISTER, UNREGISTER, call,
 };
+use crate::{loop_back, requests};
 
 const ENTRIES: u32 = 128;
 const ENDS: [u32; 4] = [0, 1, 8190, 8191];
 
-pub fn size() -> Size {
-    regular::size::<128, 128, { regular::ALL }>(0)
+/// Each sequence with a size at which it is run.
+pub fn sequences() -> Vec<(Size, Vec<Call>)> {
+    let mut sequences = Vec::new();
+    for calls in regular_sequences() {
+        let looped_back = calls.iter().filter_map(loop_back_call).collect();
+        let requests = calls.iter().filter_map(request_call).collect();
+        sequences.push((regular::size::<128, ENTRIES, ALL>(0), calls));
+        sequences.push((loop_back::size::<ENTRIES, ALL>(0), looped_back));
+        sequences.push((requests::size::<ENTRIES, ALL>(0), requests));
+    }
+    sequences
 }
 
-pub fn sequences() -> Vec<Vec<Call>> {
+/// The call of that name on loop-back reception, which has no polls.
+fn loop_back_call(call: &Call) -> Option<Call> {
+    let op = loop_back::OPS.iter().find(|op| op.name == call.op.name)?;
+    Some(Call::new(op, &call.args[..op.args]))
+}
+
+/// Sixteen subjects make a service, and a walk is a frame.
+fn request_call(call: &Call) -> Option<Call> {
+    let [a, b, _] = call.args;
+    match call.op.code {
+        OPEN => Some(requests::call(requests::OPEN, &[])),
+        REGISTER => Some(requests::call(requests::REGISTER, &[a, b / 16])),
+        UNREGISTER => Some(requests::call(requests::UNREGISTER, &[a])),
+        HUB_PUSH_START => Some(requests::call(requests::POLL_PUSH, &[a / 16, 0])),
+        _ => None,
+    }
+}
+
+fn regular_sequences() -> Vec<Vec<Call>> {
     let mut sequences = vec![
         each_on_its_own(|entry| 64 * entry),
         each_on_its_own(|entry| 8191 - 64 * entry),

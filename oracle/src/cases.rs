@@ -1,15 +1,18 @@
-//! Document 01's cases of the regular registry with its own expected results, on both sides; sequences at the limits; bytes that are
-//! no registry.
+//! Document 01's cases of the registries with its own expected results, on both sides; sequences at
+//! the limits; bytes that are no registry, or another's.
 
-use crate::bounds;
 use crate::exports::{self, Answer};
 use crate::leaves::Leaves;
-use crate::pair::Lent;
+use crate::one_tree::OneTree;
+use crate::pair::{Call, Lent, Size};
+use crate::registry::THREE;
 use crate::regular::{self, HUB_PUSH_NEXT, HUB_PUSH_START, OPEN, POLL_POP, REGISTER, UNREGISTER};
 use crate::regular_bytes::LENGTH;
-use crate::runs;
 use crate::tally::{Expected, Tally};
+use crate::{bounds, loop_back as lb, requests as req, runs, whole};
+use emcyphal::registry::probe::{LoopBack, Requests};
 
+/// A call by its code in the recorded list, and what document 01 answers.
 type Row = (u8, &'static [u32], Answer);
 
 const NOTHING: Answer = Answer::DONE;
@@ -156,11 +159,73 @@ const CASES: &[&[Row]] = &[
     ],
 ];
 
+const LOOP_BACK_CASES: &[&[Row]] = &[
+    // 0 on 100, 1 on 200: frame 100 names 0 and 1, frame 150 none.
+    &[
+        (lb::OPEN, &[], Answer::DONE),
+        (lb::REGISTER, &[0, 100], Answer::DONE),
+        (lb::REGISTER, &[1, 200], Answer::DONE),
+        (lb::HUB_PUSH_START, &[100], Answer::flag(true)),
+        (lb::HUB_PUSH_NEXT, &[], Answer::new(0, 1, 0, 1)),
+        (lb::HUB_PUSH_NEXT, &[], Answer::new(0, 1, 1, 0)),
+        (lb::HUB_PUSH_NEXT, &[], Answer::DONE),
+        (lb::HUB_PUSH_START, &[150], Answer::flag(false)),
+        (lb::HUB_PUSH_NEXT, &[], Answer::DONE),
+    ],
+    &[
+        (lb::OPEN, &[], Answer::DONE),
+        (lb::REGISTER, &[127, 8191], Answer::DONE),
+        (lb::REGISTER, &[126, 8192], Answer::refused(3)),
+        (lb::REGISTER, &[128, 8192], Answer::refused(2)),
+        (lb::REGISTER, &[127, 0], Answer::refused(5)),
+        (lb::UNREGISTER, &[128], Answer::refused(2)),
+        (lb::UNREGISTER, &[126], Answer::refused(8)),
+        (lb::HUB_PUSH_START, &[8192], Answer::refused(3)),
+        (lb::HUB_PUSH_START, &[8191], Answer::flag(true)),
+        (lb::HUB_PUSH_NEXT, &[], Answer::new(0, 1, 127, 0)),
+    ],
+];
+
+/// Document 01's sentence on frames: they go to the one entry of the service, never from a loop-back
+/// frame. And 7, and the ends.
+const REQUEST_CASES: &[&[Row]] = &[&[
+    (req::OPEN, &[], Answer::DONE),
+    (req::REGISTER, &[0, 0], Answer::DONE),
+    (req::REGISTER, &[127, 511], Answer::DONE),
+    (req::REGISTER, &[1, 511], Answer::refused(7)),
+    (req::REGISTER, &[127, 511], Answer::refused(5)),
+    (req::REGISTER, &[1, 512], Answer::refused(3)),
+    (req::REGISTER, &[128, 512], Answer::refused(2)),
+    (req::UNREGISTER, &[128], Answer::refused(2)),
+    (req::UNREGISTER, &[1], Answer::refused(8)),
+    (req::POLL_PUSH, &[0, 0], Answer::new(0, 1, 0, 0)),
+    (req::POLL_PUSH, &[511, 0], Answer::new(0, 1, 127, 0)),
+    (req::POLL_PUSH, &[511, 1], Answer::DONE),
+    (req::POLL_PUSH, &[511, 255], Answer::DONE),
+    (req::POLL_PUSH, &[510, 0], Answer::DONE),
+    (req::POLL_PUSH, &[512, 0], Answer::refused(3)),
+    (req::POLL_PUSH, &[512, 1], Answer::refused(3)),
+    (req::UNREGISTER, &[127], Answer::DONE),
+    (req::POLL_PUSH, &[511, 0], Answer::DONE),
+    (req::REGISTER, &[1, 511], Answer::DONE),
+    (req::POLL_PUSH, &[511, 0], Answer::new(0, 1, 1, 0)),
+]];
+
 pub fn run(tally: &mut Tally) -> Result<(), String> {
-    CASES.iter().try_for_each(|case| run_case(case, tally))?;
-    for calls in bounds::sequences() {
-        runs::written(&bounds::size(), calls, tally).map_err(|d| d.to_string())?;
+    let kinds = [
+        (regular::size::<4, 3, THREE>(0), CASES),
+        (lb::size::<3, THREE>(0), LOOP_BACK_CASES),
+        (req::size::<3, THREE>(0), REQUEST_CASES),
+    ];
+    for (size, cases) in kinds {
+        cases
+            .iter()
+            .try_for_each(|case| run_case(&size, case, tally))?;
     }
+    for (size, calls) in bounds::sequences() {
+        runs::written(&size, calls, tally).map_err(|d| d.to_string())?;
+    }
+    whole::run(tally)?;
     let mut leaves = Leaves {
         kind: "cases",
         tally,
@@ -168,11 +233,12 @@ pub fn run(tally: &mut Tally) -> Result<(), String> {
     other_bytes(&mut leaves)
 }
 
-fn run_case(case: &[Row], tally: &mut Tally) -> Result<(), String> {
-    let mut pair = (regular::size::<4, 3, { regular::THREE }>(0).open)(0);
+fn run_case(size: &Size, case: &[Row], tally: &mut Tally) -> Result<(), String> {
+    let mut pair = (size.open)(0);
     let mut calls = Vec::new();
     for &(code, args, expected) in case {
-        let call = regular::call(code, args);
+        let op = pair.ops().iter().find(|op| op.code == code);
+        let call = Call::new(op.expect("a code of this kind"), args);
         calls.push(call.to_string());
         let answer = runs::step(&mut *pair, call, tally)
             .map_err(|text| format!("{}: {text}", calls.join("; ")))?;
@@ -188,7 +254,9 @@ fn run_case(case: &[Row], tally: &mut Tally) -> Result<(), String> {
 
 /// Bytes of another length, and bytes at random, get 1 whatever the numbers are, and stay.
 fn other_bytes(leaves: &mut Leaves) -> Result<(), String> {
-    for length in [0, 1, 4, 385, 389, 1024, LENGTH - 1, LENGTH, LENGTH + 1] {
+    let own = [LENGTH, LoopBack::LENGTH, Requests::LENGTH];
+    let lengths = own.iter().flat_map(|own| [own - 1, *own, own + 1]);
+    for length in lengths.chain([0, 1, 4, 1024]) {
         for number in [0, 1, 127, 128, 8191, 8192, 65_535, 65_536, u32::MAX] {
             let mut lent = Lent::new(length, 1);
             for (name, ours) in refused_calls(&mut lent, number) {
@@ -205,19 +273,32 @@ fn other_bytes(leaves: &mut Leaves) -> Result<(), String> {
     Ok(())
 }
 
+/// Every call of the registries, but an opening where the length is its kind's.
 fn refused_calls(lent: &mut Lent, number: u32) -> Vec<(&'static str, Answer)> {
+    use exports::*;
     let mut answers = vec![
-        ("reg_register", exports::reg_register(lent, number, number)),
-        ("reg_unregister", exports::reg_unregister(lent, number)),
-        ("reg_poll_pop", exports::reg_poll_pop(lent)),
-        (
-            "reg_hub_push_start",
-            exports::reg_hub_push_start(lent, number),
-        ),
-        ("reg_hub_push_next", exports::reg_hub_push_next(lent)),
+        ("reg_register", reg_register(lent, number, number)),
+        ("reg_unregister", reg_unregister(lent, number)),
+        ("reg_poll_pop", reg_poll_pop(lent)),
+        ("reg_hub_push_start", reg_hub_push_start(lent, number)),
+        ("reg_hub_push_next", reg_hub_push_next(lent)),
+        ("lb_register", lb_register(lent, number, number)),
+        ("lb_unregister", lb_unregister(lent, number)),
+        ("lb_hub_push_start", lb_hub_push_start(lent, number)),
+        ("lb_hub_push_next", lb_hub_push_next(lent)),
+        ("req_register", req_register(lent, number, number)),
+        ("req_unregister", req_unregister(lent, number)),
+        ("req_poll_push", req_poll_push(lent, number, number as u8)),
     ];
-    if lent.len() != LENGTH {
-        answers.push(("reg_open", exports::reg_open(lent, number)));
+    let length = lent.len();
+    if length != LENGTH {
+        answers.push(("reg_open", reg_open(lent, number)));
+    }
+    if length != LoopBack::LENGTH {
+        answers.push(("lb_open", lb_open(lent)));
+    }
+    if length != Requests::LENGTH {
+        answers.push(("req_open", req_open(lent)));
     }
     answers
 }

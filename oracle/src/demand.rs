@@ -5,10 +5,7 @@ use crate::exports::Answer;
 use crate::image::{self, MOST_SUBJECT, Passing};
 use crate::pair::Call;
 use crate::regular::{OPEN, POLL_POP, REGISTER, UNREGISTER};
-use emcyphal::registry::probe::State;
-
-/// An entry and its subject.
-type Listed = (u8, u16);
+use emcyphal::registry::probe::{Listed, Seen, State};
 
 #[derive(Clone)]
 pub struct Demand {
@@ -131,11 +128,7 @@ impl Demand {
     pub fn compare(&self, state: &State) -> Result<(), String> {
         let waiting = self.waiting.iter().map(|listed| listed.0);
         let mut active = self.active.clone();
-        let mut rust: Vec<_> = state
-            .active
-            .iter()
-            .map(|seen| (seen.entry, seen.subject))
-            .collect();
+        let mut rust: Vec<_> = state.active.iter().map(Seen::listed).collect();
         active.sort();
         rust.sort();
         if waiting.eq(state.activation.iter().copied()) && active == rust {

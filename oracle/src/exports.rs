@@ -137,6 +137,7 @@ exports! {
         iq_front();
         iq_back();
         img_has_subject(subject: u32);
+        req_poll_push(service: u32, loop_back: u8);
     }
     write {
         mcq_open(classes: u32, entries: u32);
@@ -156,6 +157,14 @@ exports! {
         reg_poll_pop();
         reg_hub_push_start(subject: u32);
         reg_hub_push_next();
+        lb_open();
+        lb_register(entry: u32, subject: u32);
+        lb_unregister(entry: u32);
+        lb_hub_push_start(subject: u32);
+        lb_hub_push_next();
+        req_open();
+        req_register(entry: u32, service: u32);
+        req_unregister(entry: u32);
         img_open();
         img_add_subject(subject: u32);
         img_remove_subject_range(first: u32, last: u32);

@@ -8,16 +8,21 @@ mod image;
 mod keys;
 mod leaves;
 mod lists;
+mod loop_back;
+mod one_tree;
 mod pair;
 mod panics;
 mod record;
+mod registry;
 mod regular;
 mod regular_bytes;
-mod regular_draw;
+mod requests;
 mod rng;
 mod runs;
 mod tally;
+mod tree;
 mod vectors;
+mod whole;
 
 use pair::Size;
 use rng::Rng;
@@ -28,13 +33,13 @@ use tally::Tally;
 
 const USAGE: &str = "\
 compare [--seed N] [--calls N | --seconds N] [--kinds K,..]
-    compares; K is leaves, vectors, cases, panics, mcq, iq, reg, img (default: all); N random calls
-    in all (default 1300000), or as many as fit in N seconds, besides what is done over all inputs
+    compares; K is leaves, vectors, cases, panics, mcq, iq, reg, lb, req, img (default: all); N random
+    calls in all (default 1700000), or as many as fit in N seconds, besides what is done over all inputs
 compare --panics        shows each sequence in which the Rust panics and ours does not
 compare --record DIR    writes DIR/stdin and DIR/stdout: calls, and the Rust's answers
 exit 0: no difference; 1: a difference, after the shortened calls that show it; 2: bad usage";
 
-const CALLS: u64 = 1_300_000;
+const CALLS: u64 = 1_700_000;
 
 /// How much is run at random.
 enum Amount {
@@ -101,6 +106,16 @@ const KINDS: &[Kind] = &[
         name: "reg",
         sizes: regular::sizes,
         small: regular::small,
+    },
+    Kind {
+        name: "lb",
+        sizes: loop_back::sizes,
+        small: loop_back::small,
+    },
+    Kind {
+        name: "req",
+        sizes: requests::sizes,
+        small: requests::small,
     },
     Kind {
         name: "img",

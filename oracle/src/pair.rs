@@ -113,6 +113,11 @@ pub trait Pair {
     /// The call that opens a state of this size.
     fn opening(&self) -> Call;
 
+    /// One in so many random calls is an opening.
+    fn openings(&self) -> u64 {
+        100
+    }
+
     /// A call of `op` with arguments at random, in and past the limits.
     fn draw(&self, op: &'static Op, rng: &mut Rng) -> Call;
 
@@ -146,14 +151,20 @@ pub trait Pair {
         }
     }
 
-    /// The state read back in words; it follows from equal bytes if layout and reader are right.
+    /// Whether the lent bytes mean the Rust's state; it follows from equal bytes if layout and reader are right.
+    fn means_the_same(&self) -> bool {
+        self.our_state() == self.rust_state()
+    }
+
+    /// The state read back, in words where it differs.
     fn read_back(&self) -> Result<(), String> {
-        let (ours, rust) = (self.our_state(), self.rust_state());
-        if ours == rust {
+        if self.means_the_same() {
             return Ok(());
         }
         Err(format!(
-            "state read back\nours:     {ours}\nthe Rust: {rust}"
+            "state read back\nours:     {}\nthe Rust: {}",
+            self.our_state(),
+            self.rust_state()
         ))
     }
 

@@ -4,9 +4,10 @@
 
 use crate::exports::{self, Answer};
 use crate::pair::{Call, Lent, Size};
+use crate::registry::THREE;
 use crate::tally::{Expected, Tally};
-use crate::{keys, lists, regular, regular_bytes};
-use emcyphal::registry::probe::Regular;
+use crate::{keys, lists, loop_back, regular, regular_bytes, requests};
+use emcyphal::registry::probe::{Regular, Requests, Tree};
 use emcyphal::utils::IndexQueue;
 use emcyphal::utils::probe::MultiClassQueue;
 use std::cell::Cell;
@@ -38,8 +39,8 @@ struct Case {
     size: Size,
     /// After the opening.
     calls: Vec<Call>,
-    /// Whether the Rust panics on the last one, or goes on.
-    panics: bool,
+    /// What the Rust answers to the last one; none: it panics.
+    rust: Option<Answer>,
     ours: Answer,
     /// What the last one leaves of the Rust's state, where that is not what was there before.
     leaves: Option<&'static str>,
@@ -59,7 +60,7 @@ fn list_cases() -> Vec<Case> {
         .map(|call| Case {
             size: size::<1, 1>(0),
             calls: vec![call],
-            panics: true,
+            rust: None,
             ours: Answer::refused(13),
             leaves: None,
         })
@@ -81,7 +82,7 @@ fn key_cases() -> Vec<Case> {
         Case {
             size: size::<3, 2>(0),
             calls,
-            panics: true,
+            rust: None,
             ours,
             leaves,
         }
@@ -103,7 +104,7 @@ fn registry_cases() -> Vec<Case> {
     let again = |calls, leaves| Case {
         size: size::<1, 3, THREE>(0),
         calls,
-        panics: true,
+        rust: None,
         ours: Answer::refused(5),
         leaves,
     };
@@ -113,11 +114,48 @@ fn registry_cases() -> Vec<Case> {
         Case {
             size: size::<65_535, 3, THREE>(0),
             calls: to_the_top.to_vec(),
-            panics: false,
+            rust: Some(Answer::flag(true)),
             ours: Answer::refused(9),
             leaves: Some(passed),
         },
     ]
+}
+
+/// An entry registered again, here too. The Rust finds the service taken, by the entry itself.
+fn one_tree_cases() -> Vec<Case> {
+    let again = |size, register: fn(u8, &[u32]) -> Call, code, rust| Case {
+        size,
+        calls: vec![register(code, &[0, 0]); 2],
+        rust,
+        ours: Answer::refused(5),
+        leaves: None,
+    };
+    let occupied = Some(Answer::refused(7));
+    vec![
+        again(
+            loop_back::size::<3, THREE>(0),
+            loop_back::call,
+            loop_back::REGISTER,
+            None,
+        ),
+        again(
+            requests::size::<3, THREE>(0),
+            requests::call,
+            requests::REGISTER,
+            occupied,
+        ),
+    ]
+}
+
+/// An endpoint for requests that are looped back: none of our calls registers one.
+fn looped_back_request() -> Result<String, String> {
+    let mut requests = Requests::of(&Tree::default());
+    let shown = "req register 0 0 for loop-back frames: the Rust";
+    let answer = caught(|| requests.register(0, 0, true).is_ok());
+    if answer.is_some() || requests.state() != Tree::default() {
+        return Err(format!("{shown} does not panic, or registers it"));
+    }
+    Ok(format!("{shown} panics; ours has no such call"))
 }
 
 /// A size that document 01 does not allow. The Rust's `_ASSERT` constants are never evaluated: 256
@@ -190,7 +228,12 @@ pub fn run(print: bool, tally: &mut Tally) -> Result<(), String> {
             println!("{shown}");
         }
     };
-    let cases = [list_cases(), key_cases(), registry_cases()];
+    let cases = [
+        list_cases(),
+        key_cases(),
+        registry_cases(),
+        one_tree_cases(),
+    ];
     for case in cases.into_iter().flatten() {
         told(show(&case)?, case.calls[case.calls.len() - 1], case.ours);
     }
@@ -200,6 +243,10 @@ pub fn run(print: bool, tally: &mut Tally) -> Result<(), String> {
             case.opening,
             Answer::refused(case.number),
         );
+    }
+    let shown = looped_back_request()?;
+    if print {
+        println!("{shown}");
     }
     Ok(())
 }
@@ -239,8 +286,12 @@ fn show(case: &Case) -> Result<String, String> {
         .collect();
     let sequence = sequence.join("; ");
     let (before, lent) = (pair.rust_state(), pair.lent().to_vec());
-    if caught(|| pair.put(last)).is_none() != case.panics {
-        return Err(format!("{sequence}: the Rust panics: {}", !case.panics));
+    let rust = shown(caught(|| pair.put(last)));
+    if rust != shown(case.rust) {
+        return Err(format!(
+            "{sequence}: the Rust {rust}, expected {}",
+            shown(case.rust)
+        ));
     }
     let after = pair.rust_state();
     let expected = case.leaves.unwrap_or(&before);
@@ -256,11 +307,14 @@ fn show(case: &Case) -> Result<String, String> {
             case.ours
         ));
     }
-    let rust = if case.panics { "panics" } else { "goes on" };
     Ok(format!(
         "{sequence}: the Rust {rust}, then {}; ours {ours}",
         describe(&before, &after)
     ))
+}
+
+fn shown(answer: Option<Answer>) -> String {
+    answer.map_or("panics".into(), |answer| format!("answers {answer}"))
 }
 
 fn describe(before: &str, after: &str) -> String {

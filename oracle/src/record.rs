@@ -3,10 +3,11 @@
 
 use crate::exports::Answer;
 use crate::pair::{Call, Pair, Role, Size};
+use crate::registry::{ALL, ENDS, NEAR, SOME, THREE};
 use crate::rng::Rng;
 use crate::runs::Mood;
 use crate::tally::Expected;
-use crate::{keys, leaves, lists, regular, runs};
+use crate::{keys, leaves, lists, loop_back, regular, requests, runs};
 use std::path::Path;
 use std::{fs, io};
 
@@ -32,13 +33,22 @@ fn plan() -> Vec<(Size, usize, usize)> {
         (keys::size::<7, 3>(0), 3, 14),
         (keys::size::<300, 222>(0), 1, 80),
         (keys::size::<8191, 16>(0), 2, 40),
-        (regular::size::<1, 3, { regular::THREE }>(0), 2, 60),
-        (regular::size::<3, 3, { regular::THREE }>(0), 3, 120),
-        (regular::size::<4, 8, { regular::ENDS }>(0), 2, 150),
-        (regular::size::<8, 16, { regular::NEAR }>(0), 1, 200),
-        (regular::size::<40, 128, { regular::SOME }>(0), 1, 250),
-        (regular::size::<200, 128, { regular::ALL }>(0), 1, 250),
-        (regular::size::<65_535, 3, { regular::THREE }>(0), 1, 120),
+        (regular::size::<1, 3, THREE>(0), 2, 60),
+        (regular::size::<3, 3, THREE>(0), 3, 120),
+        (regular::size::<4, 8, ENDS>(0), 2, 150),
+        (regular::size::<8, 16, NEAR>(0), 1, 200),
+        (regular::size::<40, 128, SOME>(0), 1, 250),
+        (regular::size::<200, 128, ALL>(0), 1, 250),
+        (regular::size::<65_535, 3, THREE>(0), 1, 120),
+        (loop_back::size::<3, THREE>(0), 3, 60),
+        (loop_back::size::<8, ENDS>(0), 2, 100),
+        (loop_back::size::<16, NEAR>(0), 1, 150),
+        (loop_back::size::<128, SOME>(0), 1, 200),
+        (loop_back::size::<128, ALL>(0), 1, 250),
+        (requests::size::<3, THREE>(0), 2, 20),
+        (requests::size::<8, ENDS>(0), 1, 30),
+        (requests::size::<128, SOME>(0), 1, 60),
+        (requests::size::<128, ALL>(0), 1, 200),
     ]
 }
 

@@ -4,10 +4,12 @@ use crate::demand::Demand;
 use crate::exports::{self, Answer};
 use crate::image::{self, MOST_SUBJECT};
 use crate::pair::{Call, Lent, Op, Pair, Size, ops};
-use crate::regular_bytes::{self as bytes, LENGTH, MOST_ENTRY};
-use crate::regular_draw::Draw;
+use crate::registry::{
+    self, ALL, Draw, ENDS, NEAR, ONE, Pools, Range, SOME, THREE, pushed, registered,
+};
+use crate::regular_bytes::{self as bytes, LENGTH};
 use crate::rng::Rng;
-use emcyphal::registry::RegistrationError;
+use crate::tree;
 use emcyphal::registry::probe::Regular;
 use emcyphal_driver::link::FilterUpdate;
 
@@ -20,8 +22,8 @@ ops! { "reg":
     HUB_PUSH_NEXT = 65 "hub_push_next" 0 Walk;
 }
 
-/// The subjects that a size uses; none named: all.
-const POOLS: [&[u16]; 6] = [
+/// Those of loop-back reception too.
+pub const POOLS: Pools = [
     &[0, 1, 8191],
     &[0, 1, 8190, 8191],
     &[100],
@@ -29,12 +31,6 @@ const POOLS: [&[u16]; 6] = [
     &[0, 1, 2, 100, 101, 300, 8188, 8190, 8191],
     &[],
 ];
-pub const THREE: usize = 0;
-pub const ENDS: usize = 1;
-pub const ONE: usize = 2;
-pub const NEAR: usize = 3;
-pub const SOME: usize = 4;
-pub const ALL: usize = 5;
 
 pub fn sizes() -> Vec<Size> {
     vec![
@@ -62,10 +58,7 @@ pub fn small() -> Vec<Size> {
 }
 
 pub fn size<const SLOTS: u32, const ENTRIES: u32, const POOL: usize>(share: u64) -> Size {
-    let subjects = match POOLS[POOL].len() {
-        0 => image::SUBJECTS,
-        named => named,
-    };
+    let subjects = range(ENTRIES, POOL).numbers().len();
     Size {
         name: format!("reg {SLOTS}, entries {ENTRIES}, subjects {subjects}"),
         share,
@@ -82,6 +75,25 @@ pub fn size<const SLOTS: u32, const ENTRIES: u32, const POOL: usize>(share: u64)
 }
 
 pub const MOST_SLOTS: u32 = 65_535;
+
+fn range(entries: u32, pool: usize) -> Range {
+    Range {
+        entries,
+        pool: POOLS[pool],
+        most: MOST_SUBJECT,
+    }
+}
+
+/// Every other time past the limit, so that sequences are long; else mostly the size's own.
+fn draw_slots(own: u32, rng: &mut Rng) -> u32 {
+    let past = [65_536, 65_537, u32::MAX];
+    let within = [own, own, own, own, own, own, 0, 1, 65_535];
+    if rng.one_in(2) {
+        rng.pick(&past)
+    } else {
+        rng.pick(&within)
+    }
+}
 
 /// The counter is not bounded by the slots: exploring follows it from 3 below to 1 above.
 fn followed(slots: u32) -> std::ops::RangeInclusive<u32> {
@@ -112,11 +124,7 @@ impl<const SLOTS: u32, const ENTRIES: u32, const POOL: usize> Registry<SLOTS, EN
         let [a, b, _] = call.args;
         match call.op.code {
             OPEN => self.rust = Regular::new(a as usize),
-            REGISTER => match self.rust.register(a as u8, b as u16) {
-                Ok(()) => (),
-                Err(RegistrationError::NoSubjectSlotLeft) => return Answer::refused(6),
-                Err(RegistrationError::DataSpecifierOccupied) => return Answer::refused(7),
-            },
+            REGISTER => return registered(self.rust.register(a as u8, b as u16)),
             UNREGISTER => self.rust.unregister(a as u8),
             POLL_POP => return update(self.rust.poll_pop()),
             HUB_PUSH_START => return Answer::flag(self.rust.hub_push_start(a as u16)),
@@ -147,13 +155,6 @@ fn update(update: Option<FilterUpdate>) -> Answer {
     }
 }
 
-fn pushed((entry, more): (Option<u8>, bool)) -> Answer {
-    match entry {
-        Some(entry) => Answer::new(0, 1, entry.into(), more.into()),
-        None => Answer::new(0, 0, 0, more.into()),
-    }
-}
-
 impl<const SLOTS: u32, const ENTRIES: u32, const POOL: usize> Pair
     for Registry<SLOTS, ENTRIES, POOL>
 {
@@ -166,51 +167,37 @@ impl<const SLOTS: u32, const ENTRIES: u32, const POOL: usize> Pair
     }
 
     fn draw(&self, op: &'static Op, rng: &mut Rng) -> Call {
+        if op.code == OPEN {
+            return call(OPEN, &[draw_slots(SLOTS, rng)]);
+        }
+        let state = self.rust.state();
         let draw = Draw {
-            rust: &self.rust,
-            entries: ENTRIES,
-            subjects: POOLS[POOL],
+            range: range(ENTRIES, POOL),
+            active: bytes::listed(&state.active),
+            inactive: bytes::listed(&state.inactive),
+            walk: state.walk,
         };
-        let args = match op.code {
-            OPEN => [draw.slots(SLOTS, rng), 0],
-            REGISTER => [draw.free_entry(rng), draw.subject(rng)],
-            UNREGISTER => [draw.registered_entry(rng), 0],
-            _ => [draw.subject(rng), 0],
-        };
-        Call::new(op, &args[..op.args])
+        draw.call(op, rng)
     }
 
     fn every_call(&self) -> Vec<Call> {
-        let named = POOLS[POOL].iter().map(|&subject| subject.into());
-        let subjects: Vec<u32> = named.chain([MOST_SUBJECT + 1]).collect();
         let slots = followed(SLOTS).filter(|&slots| slots <= SLOTS);
-        let mut calls: Vec<_> = slots
-            .chain([MOST_SLOTS + 1])
-            .map(|slots| call(OPEN, &[slots]))
-            .collect();
-        for entry in (0..ENTRIES).chain([MOST_ENTRY + 1]) {
-            calls.extend(subjects.iter().map(|&s| call(REGISTER, &[entry, s])));
-            calls.push(call(UNREGISTER, &[entry]));
-        }
-        calls.extend(subjects.iter().map(|&s| call(HUB_PUSH_START, &[s])));
-        calls.extend([HUB_PUSH_NEXT, POLL_POP].map(|code| call(code, &[])));
+        let opening = |slots| call(OPEN, &[slots]);
+        let mut calls: Vec<_> = slots.chain([MOST_SLOTS + 1]).map(opening).collect();
+        calls.extend(range(ENTRIES, POOL).every_call(OPS));
         calls
     }
 
     fn unasked(&self, call: Call) -> Option<Answer> {
-        let [a, b, _] = call.args;
-        let is_registered = || self.rust.is_registered(a as u8);
-        let number = match call.op.code {
-            OPEN if a > MOST_SLOTS => 3,
-            REGISTER | UNREGISTER if a > MOST_ENTRY => 2,
-            REGISTER if b > MOST_SUBJECT => 3,
-            HUB_PUSH_START if a > MOST_SUBJECT => 3,
-            REGISTER if is_registered() => 5,
-            UNREGISTER if !is_registered() => 8,
-            UNREGISTER if self.passes_slots(a as u8) => 9,
-            _ => return None,
-        };
-        Some(Answer::refused(number))
+        let a = call.args[0];
+        let is_registered = |entry| self.rust.is_registered(entry);
+        let number = registry::refused(call, MOST_SUBJECT, is_registered);
+        let number = number.or_else(|| match call.op.code {
+            OPEN if a > MOST_SLOTS => Some(3),
+            UNREGISTER if self.passes_slots(a as u8) => Some(9),
+            _ => None,
+        });
+        number.map(Answer::refused)
     }
 
     /// The wake flag is how often the Rust woke; only accepted registering and removing may.
@@ -245,7 +232,7 @@ impl<const SLOTS: u32, const ENTRIES: u32, const POOL: usize> Pair
 
     fn lay(&self, over: &mut [u8]) {
         if self.is_fresh {
-            over.fill(bytes::UNUSED);
+            over.fill(tree::UNUSED);
         }
         bytes::lay(&self.rust.state(), over);
     }
@@ -259,16 +246,8 @@ impl<const SLOTS: u32, const ENTRIES: u32, const POOL: usize> Pair
         bytes::words(&state) + &faults
     }
 
-    /// Without words, where nothing differs.
-    fn read_back(&self) -> Result<(), String> {
-        if bytes::read(&self.lent) == (self.rust.state(), String::new()) {
-            return Ok(());
-        }
-        Err(format!(
-            "state read back\nours:     {}\nthe Rust: {}",
-            self.our_state(),
-            self.rust_state()
-        ))
+    fn means_the_same(&self) -> bool {
+        bytes::read(&self.lent) == (self.rust.state(), String::new())
     }
 
     fn beside(&mut self, call: Call, answer: Answer) -> Result<(), String> {

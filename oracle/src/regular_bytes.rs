@@ -2,27 +2,21 @@
 
 use crate::lists::{Cycles, lay_links, read_links};
 use crate::rng::Rng;
-use emcyphal::registry::probe::{Seen, State};
+use crate::tree::{self, ENTRIES};
+use emcyphal::registry::probe::{Listed, Seen, State};
 
 pub const LENGTH: usize = 1036;
-pub const MOST_ENTRY: u32 = 127;
-const ENTRIES: usize = 128;
-const TREE: usize = 1 + 3 * ENTRIES;
+const TREE: usize = tree::LENGTH;
 const QUEUE_AT: usize = 2 * TREE;
 const CLASSES: usize = 2;
 const SLOTS_AT: usize = QUEUE_AT + 2 + 2 * (CLASSES + ENTRIES);
 const FLAG_AT: usize = SLOTS_AT + 2;
 const WALK_AT: usize = FLAG_AT + 1;
 
-/// What an opening writes where nothing is said, and a removal into a place that is left.
-pub const UNUSED: u8 = 0;
-const LEFT: u8 = 255;
-const NO_WALK: u8 = 255;
-
 /// The state over the bytes before the call.
 pub fn lay(state: &State, over: &mut [u8]) {
-    lay_tree(&state.active, &mut over[..TREE]);
-    lay_tree(&state.inactive, &mut over[TREE..QUEUE_AT]);
+    tree::lay(&listed(&state.active), &mut over[..TREE]);
+    tree::lay(&listed(&state.inactive), &mut over[TREE..QUEUE_AT]);
     let links = links(&[&state.clean_up, &state.activation]);
     lay_links(CLASSES, &links, &mut over[QUEUE_AT..SLOTS_AT]);
     over[SLOTS_AT..FLAG_AT].copy_from_slice(&(state.slots as u16).to_le_bytes());
@@ -30,24 +24,11 @@ pub fn lay(state: &State, over: &mut [u8]) {
         (false, _) => 0,
         (true, before) => before.max(1),
     };
-    over[WALK_AT] = match (state.walk, over[WALK_AT]) {
-        (Some(entry), _) => entry,
-        (None, before) if u32::from(before) > MOST_ENTRY => before,
-        (None, _) => NO_WALK,
-    };
+    tree::lay_walk(state.walk, &mut over[WALK_AT]);
 }
 
-fn lay_tree(pairs: &[Seen], over: &mut [u8]) {
-    let before = usize::from(over[0]);
-    over[0] = pairs.len() as u8;
-    for (i, place) in over[1..].chunks_exact_mut(3).enumerate() {
-        if let Some(pair) = pairs.get(i) {
-            let [low, high] = pair.subject.to_le_bytes();
-            place.copy_from_slice(&[pair.entry, low, high]);
-        } else if i < before {
-            place.fill(LEFT);
-        }
-    }
+pub fn listed(pairs: &[Seen]) -> Vec<Listed> {
+    pairs.iter().map(Seen::listed).collect()
 }
 
 /// Next and prev of every node, of classes with these entries.
@@ -82,21 +63,17 @@ pub fn read(bytes: &[u8]) -> (State, String) {
         linked[usize::from(entry)] = true;
     }
     let mut tree = |bytes: &[u8], is_active: bool| {
-        if usize::from(bytes[0]) > ENTRIES {
-            faults += " FAULT a tree's size";
-        }
+        let (listed, fault) = tree::read(bytes);
+        faults += fault;
         let mut above = None;
         let mut pairs = Vec::new();
-        for place in bytes[1..].chunks_exact(3).take(bytes[0].into()) {
-            let subject = u16::from_le_bytes([place[1], place[2]]);
-            let is_head = is_active && above != Some(subject);
-            let is_linked = linked.get(usize::from(place[0])) == Some(&true);
+        for (entry, subject) in listed {
             pairs.push(Seen {
-                entry: place[0],
+                entry,
                 subject,
                 is_active,
-                is_head,
-                is_linked,
+                is_head: is_active && above != Some(subject),
+                is_linked: linked.get(usize::from(entry)) == Some(&true),
             });
             above = Some(subject);
         }
@@ -109,7 +86,7 @@ pub fn read(bytes: &[u8]) -> (State, String) {
         activation: cycles.lists[1].clone(),
         last_gap: bytes[FLAG_AT] != 0,
         slots: usize::from(u16::from_le_bytes([bytes[SLOTS_AT], bytes[SLOTS_AT + 1]])),
-        walk: Some(bytes[WALK_AT]).filter(|&entry| u32::from(entry) <= MOST_ENTRY),
+        walk: tree::read_walk(bytes[WALK_AT]),
     };
     (state, faults)
 }
@@ -151,28 +128,21 @@ fn pair_words(pair: &Seen) -> String {
 
 /// Other bytes of the same meaning.
 pub fn disguise(bytes: &mut [u8], rng: &mut Rng) {
-    for tree in bytes[..QUEUE_AT].chunks_exact_mut(TREE) {
-        let used = 1 + 3 * usize::from(tree[0]);
-        tree[used..].fill_with(|| rng.next() as u8);
+    for places in bytes[..QUEUE_AT].chunks_exact_mut(TREE) {
+        tree::disguise(places, rng);
     }
     if bytes[FLAG_AT] != 0 {
         bytes[FLAG_AT] = 1 + rng.below(255) as u8;
     }
-    if u32::from(bytes[WALK_AT]) > MOST_ENTRY {
-        bytes[WALK_AT] = 128 + rng.below(128) as u8;
-    }
+    tree::disguise_walk(&mut bytes[WALK_AT], rng);
 }
 
 /// The meaning in few bytes.
 pub fn told_by(state: &State) -> Vec<u8> {
-    let mut told = vec![state.last_gap.into(), state.walk.unwrap_or(NO_WALK)];
+    let mut told = vec![state.last_gap.into()];
     told.extend((state.slots as u16).to_le_bytes());
-    for tree in [&state.active, &state.inactive] {
-        told.push(tree.len() as u8);
-        for pair in tree {
-            let [low, high] = pair.subject.to_le_bytes();
-            told.extend([pair.entry, low, high]);
-        }
+    for pairs in [&state.active, &state.inactive] {
+        told.extend(tree::told_by(&listed(pairs), state.walk));
     }
     for queue in [&state.clean_up, &state.activation] {
         told.push(queue.len() as u8);

@@ -164,7 +164,7 @@ fn draw_op(ops: &'static [Op], mood: Mood, rng: &mut Rng) -> &'static Op {
 
 /// A call at random: now and then the opening, mostly what the mood asks for.
 pub fn draw(pair: &dyn Pair, mood: Mood, rng: &mut Rng) -> Call {
-    let op = if rng.one_in(100) {
+    let op = if rng.one_in(pair.openings()) {
         pair.opening().op
     } else {
         draw_op(pair.ops(), mood, rng)

@@ -10,13 +10,14 @@ use borrow.Author.Tests.{le-ltb, lt-ltb, eq-eqb, ne-eqb}
 use Rattle.state.specs.Result.{Result, done, answer, left, Bytes}
 use Rattle.state.proofs.Calls.{is-whole}
 use Rattle.entry_tree.specs.Pairs.{Pair, count, isEntry, find, placeOf}
+use Rattle.entry_tree.specs.Walks.{firstOn, isSome, nextOn}
 use Rattle.regular.specs.Registry.{Registry}
 use Rattle.regular.specs.Bytes.{wholeB, read, laid}
-use Rattle.regular.specs.Steps.{hubPushStart, hubPushNext, HubPushStart, HubPushNext, firstOn, nextOn, isSome, withWalk, pushAt}
+use Rattle.regular.specs.Steps.{hubPushStart, hubPushNext, HubPushStart, HubPushNext, withWalk, pushAt}
 use Rattle.regular.specs.Calls.{on, bytes}
 use Rattle.regular.specs.declared.Answer.{Answer}
 use Rattle.regular.specs.declared.Answer.the-variants.{Refused, Started, Pushed}
-use Rattle.regular_fair.proofs.Count.{same, diff, below, above, compareEq, compareLe, count-self, count-append}
+use Rattle.entry_tree.proofs.Count.{same, diff, below, above, compareEq, compareLe, count-self, count-append}
 use Rattle.regular_fair.proofs.Facts.{Facts, Ordered, onil, ocons, at-most}
 use Rattle.regular_fair.proofs.Fair.{fair-whole}
 use Rattle.regular_fair.proofs.Mean.{means}

@@ -6,11 +6,11 @@ use mathlib.Core.Bool.{Bool, true, false}
 use mathlib.Core.List.{List, [], _∷_, map}
 use mathlib.Core.Option.{Option, some}
 use lib.ListN.{replicate}
-use Rattle.state.specs.Lengths.{keysLength, regularLength}
+use Rattle.state.specs.Lengths.{keysLength, regularLength, loopBackLength}
+use Rattle.entry_tree.specs.Walks.{firstOn}
 use Rattle.regular.specs.Bytes.{read}
-use Rattle.regular.specs.Steps.{firstOn}
 use Rattle.gomxeli.specs.Answers.{packed, flag}
-use Rattle.gomxeli.specs.Calls.{Call, IqOpen, IqInsert, IqGet, IqRemove, RegOpen, RegRegister, RegUnregister, RegPollPop, RegHubPushStart, RegHubPushNext, run, left}
+use Rattle.gomxeli.specs.Calls.{Call, IqOpen, IqInsert, IqGet, IqRemove, RegOpen, RegRegister, RegUnregister, RegPollPop, RegHubPushStart, RegHubPushNext, LbOpen, LbRegister, LbHubPushStart, LbHubPushNext, run, left}
 
 -- what bytes tell: a regular registry's slot counter; the head of a subject, its first active entry
 pub data Told : Type 0 where
@@ -130,6 +130,13 @@ table =
       length = regularLength;
       calls = RegOpen 1 ∷ RegRegister 0 100 ∷ RegRegister 1 100 ∷ RegRegister 2 100 ∷ RegPollPop ∷ RegPollPop ∷ RegHubPushStart 100 ∷ RegHubPushNext ∷ RegUnregister 1 ∷ RegHubPushNext ∷ RegHubPushNext ∷ [];
       answers = plain ∷ wake true ∷ wake false ∷ wake false ∷ adds 100 ∷ plain ∷ points ∷ names 0 true ∷ wake false ∷ names 2 false ∷ plain ∷ [];
+      told = [];
+    }
+    -- loop-back 0 on 100, 1 on 200: frame 100 names 0 and 1, frame 150 none
+    ∷ record {
+      length = loopBackLength;
+      calls = LbOpen ∷ LbRegister 0 100 ∷ LbRegister 1 200 ∷ LbHubPushStart 100 ∷ LbHubPushNext ∷ LbHubPushNext ∷ LbHubPushStart 150 ∷ LbHubPushNext ∷ [];
+      answers = plain ∷ plain ∷ plain ∷ points ∷ names 0 true ∷ names 1 false ∷ plain ∷ plain ∷ [];
       told = [];
     }
     -- key 3 value 7, then key 3 value 9: 7 comes back, 9 is not kept; remove 3: 16

@@ -41,24 +41,24 @@ order-at x (p ∷ l) h (suc i) (suc j) a b = order-at (p .subject) l (order-part
 
 -- ---- range
 
-pub range-parts : (p : Pair) (l : List Pair) → inRange (p ∷ l) ≡ true → (p .entry ≤ 127) × (p .subject ≤ 8191) × (inRange l ≡ true)
-range-parts p l h =
-    let r : (leb (p .subject) 8191 && inRange l) ≡ true = and-r (leb (p .entry) 127) (leb (p .subject) 8191 && inRange l) h in
-    (leb-true (p .entry) 127 (and-l (leb (p .entry) 127) (leb (p .subject) 8191 && inRange l) h), leb-true (p .subject) 8191 (and-l (leb (p .subject) 8191) (inRange l) r), and-r (leb (p .subject) 8191) (inRange l) r)
+pub range-parts : (most : ℕ) (p : Pair) (l : List Pair) → inRange most (p ∷ l) ≡ true → (p .entry ≤ 127) × (p .subject ≤ most) × (inRange most l ≡ true)
+range-parts most p l h =
+    let r : (leb (p .subject) most && inRange most l) ≡ true = and-r (leb (p .entry) 127) (leb (p .subject) most && inRange most l) h in
+    (leb-true (p .entry) 127 (and-l (leb (p .entry) 127) (leb (p .subject) most && inRange most l) h), leb-true (p .subject) most (and-l (leb (p .subject) most) (inRange most l) r), and-r (leb (p .subject) most) (inRange most l) r)
 
-pub range-cons : (p : Pair) (l : List Pair) → p .entry ≤ 127 → p .subject ≤ 8191 → inRange l ≡ true → inRange (p ∷ l) ≡ true
-range-cons p l a b c = rw (le-leb (p .entry) 127 a, le-leb (p .subject) 8191 b, c)
+pub range-cons : (most : ℕ) (p : Pair) (l : List Pair) → p .entry ≤ 127 → p .subject ≤ most → inRange most l ≡ true → inRange most (p ∷ l) ≡ true
+range-cons most p l a b c = rw (le-leb (p .entry) 127 a, le-leb (p .subject) most b, c)
 
-pub range-at : (l : List Pair) → inRange l ≡ true → (i : ℕ) → (getD l i none .entry ≤ 127) × (getD l i none .subject ≤ 8191)
-range-at [] h i = (omega arith, omega arith)
-range-at (p ∷ l) h zero = let q = range-parts p l h in (q .0, q .1)
-range-at (p ∷ l) h (suc i) = range-at l (range-parts p l h .2) i
+pub range-at : (most : ℕ) (l : List Pair) → inRange most l ≡ true → (i : ℕ) → (getD l i none .entry ≤ 127) × (getD l i none .subject ≤ most)
+range-at most [] h i = (omega arith, omega arith)
+range-at most (p ∷ l) h zero = let q = range-parts most p l h in (q .0, q .1)
+range-at most (p ∷ l) h (suc i) = range-at most l (range-parts most p l h .2) i
 
 -- ---- a pair that joins
 
 module _ (p : Pair) where
   -- by cases on the order of subjects
-  by-order : (P : List Pair → Type 0) (q : Pair) (l : List Pair) → (q .subject ≤ p .subject → P (q ∷ inserted p l)) → (p .subject < q .subject → P (p ∷ (q ∷ l))) → P (inserted p (q ∷ l))
+  pub by-order : (P : List Pair → Type 0) (q : Pair) (l : List Pair) → (q .subject ≤ p .subject → P (q ∷ inserted p l)) → (p .subject < q .subject → P (p ∷ (q ∷ l))) → P (inserted p (q ∷ l))
   by-order P q l f g =
       by-cond P (leb (q .subject) (p .subject)) {a = q ∷ inserted p l} {b = p ∷ (q ∷ l)} (λ t. f (leb-true (q .subject) (p .subject) t)) (λ t. g (leb-false (q .subject) (p .subject) t))
 
@@ -71,11 +71,11 @@ module _ (p : Pair) where
   inserted-count test (q ∷ l) =
       by-order (λ k. count test k ≡ bit (test p) + (bit (test q) + count test l)) q l (λ a. omega (arith, inserted-count test l)) (λ a. refl)
 
-  pub inserted-range : (l : List Pair) → p .entry ≤ 127 → p .subject ≤ 8191 → inRange l ≡ true → inRange (inserted p l) ≡ true
-  inserted-range [] a b h = range-cons p [] a b refl
-  inserted-range (q ∷ l) a b h =
-      let r = range-parts q l h in
-      by-order (λ k. inRange k ≡ true) q l (λ c. range-cons q (inserted p l) (r .0) (r .1) (inserted-range l a b (r .2))) (λ c. range-cons p (q ∷ l) a b h)
+  pub inserted-range : (most : ℕ) (l : List Pair) → p .entry ≤ 127 → p .subject ≤ most → inRange most l ≡ true → inRange most (inserted p l) ≡ true
+  inserted-range most [] a b h = range-cons most p [] a b refl
+  inserted-range most (q ∷ l) a b h =
+      let r = range-parts most q l h in
+      by-order (λ k. inRange most k ≡ true) q l (λ c. range-cons most q (inserted p l) (r .0) (r .1) (inserted-range most l a b (r .2))) (λ c. range-cons most p (q ∷ l) a b h)
 
   pub inserted-order : (x : ℕ) (l : List Pair) → x ≤ p .subject → inOrder x l ≡ true → inOrder x (inserted p l) ≡ true
   inserted-order x [] a h = order-cons x p [] a refl
@@ -113,7 +113,7 @@ inserted-at p (q ∷ l) (suc r) b f g =
 -- ---- an entry that leaves
 
 module _ (e : ℕ) where
-  by-entry : (P : List Pair → Type 0) (q : Pair) (l : List Pair) → (isEntry e q ≡ true → P (without e l)) → (isEntry e q ≡ false → P (q ∷ without e l)) → P (without e (q ∷ l))
+  pub by-entry : (P : List Pair → Type 0) (q : Pair) (l : List Pair) → (isEntry e q ≡ true → P (without e l)) → (isEntry e q ≡ false → P (q ∷ without e l)) → P (without e (q ∷ l))
   by-entry P q l f g = by-cond P (isEntry e q) {a = without e l} {b = q ∷ without e l} f g
 
   pub without-length : (l : List Pair) → length (without e l) + count (isEntry e) l ≡ length l
@@ -140,11 +140,11 @@ module _ (e : ℕ) where
       (λ t. let z = eqb-true e (q .entry) t in let w = ap bit (ne-eqb f (q .entry) (λ y. n (y ∙ sym z))) in omega (arith, w, without-count-other f n l))
       (λ t. omega (arith, without-count-other f n l))
 
-  pub without-range : (l : List Pair) → inRange l ≡ true → inRange (without e l) ≡ true
-  without-range [] h = refl
-  without-range (q ∷ l) h =
-      let r = range-parts q l h in
-      by-entry (λ k. inRange k ≡ true) q l (λ t. without-range l (r .2)) (λ t. range-cons q (without e l) (r .0) (r .1) (without-range l (r .2)))
+  pub without-range : (most : ℕ) (l : List Pair) → inRange most l ≡ true → inRange most (without e l) ≡ true
+  without-range most [] h = refl
+  without-range most (q ∷ l) h =
+      let r = range-parts most q l h in
+      by-entry (λ k. inRange most k ≡ true) q l (λ t. without-range most l (r .2)) (λ t. range-cons most q (without e l) (r .0) (r .1) (without-range most l (r .2)))
 
   pub without-order : (x : ℕ) (l : List Pair) → inOrder x l ≡ true → inOrder x (without e l) ≡ true
   without-order x [] h = refl

@@ -176,11 +176,11 @@ record Small (c : Cell) : Type 0 where
   b1 : c .low < 256
   b2 : c .high < 256
 
-pub has-bytes : (l : List Pair) (t u : List ℕ) → Has l t u → Bytes t → inRange l ≡ true → length l ≤ 128 → Bytes u
-has-bytes l t u h y r n =
+pub has-bytes : (most : ℕ) (l : List Pair) (t u : List ℕ) → Has l t u → Bytes t → most < 65536 → inRange most l ≡ true → length l ≤ 128 → Bytes u
+has-bytes most l t u h y small r n =
     let f : (i : ℕ) → Small (cellAt u i) = λ i.
     elim (decLt i (length l)) [
-      | yes q ↦ let w = range-at l r i in subst Small (sym (h .held i q)) (record { b0 = omega arith; b1 = omega arith; b2 = omega arith })
+      | yes q ↦ let w = range-at most l r i in subst Small (sym (h .held i q)) (record { b0 = omega arith; b1 = omega arith; b2 = omega arith })
       | no q ↦ elim (decLt i (taken t)) [
         | yes p ↦ subst Small (sym (h .left i (omega arith) p)) (record { b0 = omega arith; b1 = omega arith; b2 = omega arith })
         | no p ↦ subst Small (sym (h .rest i (omega arith) (omega arith))) (record { b0 = y (1 + 3 * i); b1 = y (2 + 3 * i); b2 = y (3 + 3 * i) })
@@ -204,8 +204,8 @@ module _ (t : List ℕ) (len : length t ≡ treeLength) where
     pub read-laid : read (laid l t) ≡ l
     read-laid = has-read l t (laid l t) (laid-has l t len fit)
 
-    pub bytes-laid : Bytes t → inRange l ≡ true → Bytes (laid l t)
-    bytes-laid y r = has-bytes l t (laid l t) (laid-has l t len fit) y r fit
+    pub bytes-laid : (most : ℕ) → Bytes t → most < 65536 → inRange most l ≡ true → Bytes (laid l t)
+    bytes-laid most y small r = has-bytes most l t (laid l t) (laid-has l t len fit) y small r fit
 
     -- laid over what was laid: no place that the first takes is kept
     over : (k : List Pair) → length k ≤ 128 → ((i : ℕ) → length k ≤ i → i < length l → i < taken t) → laid k (laid l t) ≡ laid k t

@@ -1,6 +1,13 @@
 pub mod Lists
 pub mod Reading
 pub mod Changes
+pub mod Count
+pub mod Finding
+pub mod Passing
+pub mod Turns
+pub mod Walking
 pub mod Cells
 pub mod Laid
 pub mod Moves
+pub mod Once
+pub mod Fitting

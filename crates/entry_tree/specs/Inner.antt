@@ -1,10 +1,16 @@
--- Inner: a place's three bytes, what the code's stores do to them, and what its loops keep.
+-- Inner: a place's three bytes, what the code's stores do to them, what its loops keep, and a walk's byte.
 use Prim.Native.Nat.{ℕ, zero, suc, _+_, _-_, _*_, _/_, _%_, _<_, _≤_}
 use mathlib.Core.Path.{_≡_}
 use mathlib.Core.List.{List, [], _∷_}
+use mathlib.Core.Option.{Option, none, some}
+use mathlib.Core.Bool.{cond}
+use lib.Dec.{eqb}
 use lib.ListN.{length, getD, set}
 use Rattle.entry_tree.specs.Pairs.{Pair}
 use Rattle.entry_tree.specs.Places.{size, subjectAt}
+use Rattle.entry_tree.specs.Walks.{walkOver}
+use Rattle.entry_tree.specs.declared.walk.Walk.{Walk}
+use Rattle.entry_tree.specs.declared.walk.Walk.the-variants.{At, Ended}
 
 -- the list without its pair i
 abbrev pub removedAt : ℕ → List Pair → List Pair
@@ -46,3 +52,15 @@ pub record Back (t u : List ℕ) (a e : ℕ) : Type 0 where
   pub before : (j : ℕ) → j < a → getD u j 0 ≡ getD t j 0
   pub moved : (j : ℕ) → a ≤ j → j < e → getD u j 0 ≡ getD t (j + 3) 0
   pub after : (j : ℕ) → e ≤ j → getD u j 0 ≡ getD t j 0
+
+-- ---- the byte i of s holds a walk
+
+abbrev pub walkAt : Walk → Option ℕ
+walkAt (At e) = some e
+walkAt Ended = none
+
+abbrev pub withWalk : ℕ → List ℕ → Option ℕ → List ℕ
+withWalk i s w = set s i (walkOver w (getD s i 0))
+
+abbrev pub withWalkPast : ℕ → List ℕ → ℕ → Option ℕ → List ℕ
+withWalkPast i s e w = cond (eqb (getD s i 0) e) (withWalk i s w) s

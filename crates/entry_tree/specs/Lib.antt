@@ -1,3 +1,5 @@
 pub mod Pairs
+pub mod Walks
 pub mod Places
 pub mod Inner
+pub mod Testing

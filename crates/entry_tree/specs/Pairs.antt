@@ -73,7 +73,16 @@ abbrev pub inOrder : ℕ → List Pair → Bool
 inOrder x [] = true
 inOrder x (p ∷ l) = leb x (p .subject) && inOrder (p .subject) l
 
--- entries 0 to 127 and subjects 0 to 8,191
-abbrev pub inRange : List Pair → Bool
-inRange [] = true
-inRange (p ∷ l) = leb (p .entry) 127 && (leb (p .subject) 8191 && inRange l)
+-- subjects from x on, each above the one before: in order, and no two the same
+abbrev pub rising : ℕ → List Pair → Bool
+rising x [] = true
+rising x (p ∷ l) = leb x (p .subject) && rising (suc (p .subject)) l
+
+-- entries 0 to 127 and subjects 0 to `most`
+abbrev pub inRange : ℕ → List Pair → Bool
+inRange most [] = true
+inRange most (p ∷ l) = leb (p .entry) 127 && (leb (p .subject) most && inRange most l)
+
+-- no entry stands twice
+abbrev pub onceB : List Pair → ℕ → Bool
+onceB l e = leb (count (isEntry e) l) 1

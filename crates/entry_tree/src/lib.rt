@@ -1,10 +1,13 @@
 // `RBTree` of entries by subject, as an ordered array in 385 lent bytes. Inner: these cross crates and may require.
+pub mod walk;
+pub mod whole;
+
 ghost use mathlib.Core.Path.{_≡_};
 ghost use mathlib.Core.Bool.{true};
 ghost use Prim.Native.Nat.{_+_, _-_, _*_, _<_, _≤_};
 ghost use lib.ListN.{length};
 ghost use Rattle.entry_tree.specs.Pairs as pairs;
-ghost use Rattle.entry_tree.specs.Pairs.{pair, isEntry, onSubject, inserted, inOrder};
+ghost use Rattle.entry_tree.specs.Pairs.{pair, isEntry, onSubject, hasEntry, hasSubject, inserted, inOrder};
 ghost use Rattle.entry_tree.specs.Places.{treeLength, size, entryAt, subjectAt, read, laid};
 ghost use Rattle.entry_tree.specs.Inner.{cellOf, setCell, Between, Forth, Back, removedAt};
 
@@ -61,6 +64,22 @@ pub fn first_on(t: &[u8], subject: u16) -> usize
         i += 1;
     }
     n
+}
+
+pub fn has_entry(t: &[u8], entry: u8) -> bool
+    requires { ⌜ (length (now t) ≡ treeLength) × (size (now t) ≤ 128) ⌝ }
+    ensures { λ r. ⌜ r ≡ hasEntry «entry» (read (now (t .entry))) ⌝ }
+{
+    let i = position(t, entry);
+    i < len(t)
+}
+
+pub fn has_subject(t: &[u8], subject: u16) -> bool
+    requires { ⌜ (length (now t) ≡ treeLength) × (size (now t) ≤ 128) ⌝ }
+    ensures { λ r. ⌜ r ≡ hasSubject subject (read (now (t .entry))) ⌝ }
+{
+    let i = first_on(t, subject);
+    i < len(t)
 }
 
 // ---- changing

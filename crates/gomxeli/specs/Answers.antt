@@ -22,6 +22,10 @@ use Rattle.multi_class_queue.specs.declared.Answer as list
 use Rattle.multi_class_queue.specs.declared.Answer.the-variants as list-says
 use Rattle.regular.specs.declared.Answer as regular
 use Rattle.regular.specs.declared.Answer.the-variants as regular-says
+use Rattle.loop_back.specs.declared.Answer as loop-back
+use Rattle.loop_back.specs.declared.Answer.the-variants as loop-back-says
+use Rattle.rx_req.specs.declared.Answer as request
+use Rattle.rx_req.specs.declared.Answer.the-variants as request-says
 use Rattle.filter_image.specs.declared.Answer as image
 use Rattle.filter_image.specs.declared.Answer.the-variants as image-says
 use Rattle.index_queue.specs.declared.Answer as key
@@ -62,6 +66,21 @@ regularAnswer regular-says.Nothing = packed 0 0 0 0
 regularAnswer (regular-says.Started b) = packed 0 (flag b) 0 0
 regularAnswer (regular-says.Pushed e more) = packed 0 1 e (flag more)
 regularAnswer regular-says.NotPushed = packed 0 0 0 0
+
+-- the loop-back registry's answer: what 1 is an entry pointed at or named
+abbrev pub loopBackAnswer : loop-back.Answer → ℕ
+loopBackAnswer (loop-back-says.Refused n) = packed n 0 0 0
+loopBackAnswer loop-back-says.Done = packed 0 0 0 0
+loopBackAnswer (loop-back-says.Started b) = packed 0 (flag b) 0 0
+loopBackAnswer (loop-back-says.Pushed e more) = packed 0 1 e (flag more)
+loopBackAnswer loop-back-says.NotPushed = packed 0 0 0 0
+
+-- the request registry's answer: what 1 is an entry that gets the frame
+abbrev pub requestAnswer : request.Answer → ℕ
+requestAnswer (request-says.Refused n) = packed n 0 0 0
+requestAnswer request-says.Done = packed 0 0 0 0
+requestAnswer (request-says.Pushed e) = packed 0 1 e 0
+requestAnswer request-says.NotPushed = packed 0 0 0 0
 
 -- the filter image's answer
 abbrev pub imageAnswer : image.Answer → ℕ

@@ -1,6 +1,8 @@
 -- Every exported call on state bytes: what it answers, and the bytes that it leaves.
 use Prim.Native.Nat.{ℕ}
+use mathlib.Core.Bool.{not}
 use mathlib.Core.List.{List, [], _∷_}
+use lib.Dec.{eqb}
 use lib.ListN.{length}
 use Rattle.state.specs.Result as state
 use Rattle.state.specs.Result.{Result}
@@ -8,7 +10,11 @@ use Rattle.multi_class_queue.specs.Calls as mcq
 use Rattle.index_queue.specs.Calls as iq
 use Rattle.regular.specs.Steps as steps
 use Rattle.regular.specs.Calls as regular
-use Rattle.gomxeli.specs.Answers.{listAnswer, keyAnswer, regularAnswer}
+use Rattle.loop_back.specs.Steps as lbSteps
+use Rattle.loop_back.specs.Calls as lb
+use Rattle.rx_req.specs.Steps as reqSteps
+use Rattle.rx_req.specs.Calls as req
+use Rattle.gomxeli.specs.Answers.{listAnswer, keyAnswer, regularAnswer, loopBackAnswer, requestAnswer}
 
 pub record Outcome : Type 0 where
   pub answer : ℕ
@@ -31,6 +37,12 @@ pub data Call : Type 0 where
   RegOpen RegUnregister RegHubPushStart : ℕ → Call
   RegRegister : ℕ → ℕ → Call
   RegPollPop RegHubPushNext : Call
+  LbOpen LbHubPushNext : Call
+  LbUnregister LbHubPushStart : ℕ → Call
+  LbRegister : ℕ → ℕ → Call
+  ReqOpen : Call
+  ReqUnregister : ℕ → Call
+  ReqRegister ReqPollPush : ℕ → ℕ → Call
 
 -- each as its own contract has it
 abbrev pub does : Call → List ℕ → Outcome
@@ -60,6 +72,15 @@ does (RegUnregister e) b = changes regularAnswer regular.bytes b (regular.on (st
 does RegPollPop b = changes regularAnswer regular.bytes b (regular.on steps.pollPop b)
 does (RegHubPushStart x) b = changes regularAnswer regular.bytes b (regular.on (steps.hubPushStart x) b)
 does RegHubPushNext b = changes regularAnswer regular.bytes b (regular.on steps.hubPushNext b)
+does LbOpen b = changes loopBackAnswer lb.openedBytes b (lb.opening (length b))
+does (LbRegister e x) b = changes loopBackAnswer lb.bytes b (lb.on (lbSteps.register e x) b)
+does (LbUnregister e) b = changes loopBackAnswer lb.bytes b (lb.on (lbSteps.unregister e) b)
+does (LbHubPushStart x) b = changes loopBackAnswer lb.bytes b (lb.on (lbSteps.hubPushStart x) b)
+does LbHubPushNext b = changes loopBackAnswer lb.bytes b (lb.on lbSteps.hubPushNext b)
+does ReqOpen b = changes requestAnswer req.openedBytes b (req.opening (length b))
+does (ReqRegister e x) b = changes requestAnswer req.bytes b (req.on (reqSteps.register e x) b)
+does (ReqUnregister e) b = changes requestAnswer req.bytes b (req.on (reqSteps.unregister e) b)
+does (ReqPollPush x loopBack) b = asks requestAnswer b (req.on (reqSteps.pollPush x (not (eqb loopBack 0))) b)
 
 -- the answers of calls one after the other, and the bytes that they leave
 unfoldable pub run : List Call → List ℕ → List ℕ

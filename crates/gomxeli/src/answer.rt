@@ -1,6 +1,6 @@
 // Answers as one number each, laid out as specs/Answers.antt has it.
 ghost use mathlib.Core.Path.{_≡_};
-ghost use Rattle.gomxeli.specs.Answers.{packed, flag, listAnswer, keyAnswer, regularAnswer, imageAnswer, priorityAnswer, subjectAnswer, serviceAnswer, nodeAnswer, transferAnswer, eotAnswer};
+ghost use Rattle.gomxeli.specs.Answers.{packed, flag, listAnswer, keyAnswer, regularAnswer, loopBackAnswer, requestAnswer, imageAnswer, priorityAnswer, subjectAnswer, serviceAnswer, nodeAnswer, transferAnswer, eotAnswer};
 use emcyphal_core::MaybeNodeId;
 use emcyphal_core::MaybePriority;
 use emcyphal_core::MaybeServiceId;
@@ -72,6 +72,29 @@ pub fn regular_answer(a: regular::Answer) -> u64
         regular::Answer::Started(b) => holds(b),
         regular::Answer::Pushed(e, more) => pack(0, 1, e as u16, more as u32),
         regular::Answer::NotPushed => pack(0, 0, 0, 0),
+    }
+}
+
+pub fn loop_back_answer(a: loop_back::Answer) -> u64
+    ensures { λ r. ⌜ r ≡ loopBackAnswer a ⌝ }
+{
+    match a {
+        loop_back::Answer::Refused(n) => pack(n, 0, 0, 0),
+        loop_back::Answer::Done => pack(0, 0, 0, 0),
+        loop_back::Answer::Started(b) => holds(b),
+        loop_back::Answer::Pushed(e, more) => pack(0, 1, e as u16, more as u32),
+        loop_back::Answer::NotPushed => pack(0, 0, 0, 0),
+    }
+}
+
+pub fn request_answer(a: rx_req::Answer) -> u64
+    ensures { λ r. ⌜ r ≡ requestAnswer a ⌝ }
+{
+    match a {
+        rx_req::Answer::Refused(n) => pack(n, 0, 0, 0),
+        rx_req::Answer::Done => pack(0, 0, 0, 0),
+        rx_req::Answer::Pushed(e) => pack(0, 1, e as u16, 0),
+        rx_req::Answer::NotPushed => pack(0, 0, 0, 0),
     }
 }
 

@@ -2,6 +2,8 @@
 pub mod answer;
 pub mod img;
 pub mod iq;
+pub mod lb;
 pub mod leaves;
 pub mod mcq;
 pub mod reg;
+pub mod req;

@@ -2,9 +2,12 @@
 // states of its own, and writes each answer. Its standard input and output are the Rust's own answers, recorded by oracle/compare.
 use gomxeli::img;
 use gomxeli::iq;
+use gomxeli::lb;
 use gomxeli::leaves;
 use gomxeli::mcq;
 use gomxeli::reg;
+use gomxeli::req;
+ghost use mathlib.Core.Path.{_≡_};
 ghost use Prim.Native.Nat.{_≤_};
 ghost use lib.ListN.{length};
 
@@ -124,6 +127,25 @@ fn image_call(s: &mut [u8], op: u64, a: u32, b: u32) -> u64 {
     }
 }
 
+fn loop_back_call(s: &mut [u8], op: u64, a: u32, b: u32) -> u64 {
+    match op {
+        80 => lb::gomxeli_lb_open(s),
+        81 => lb::gomxeli_lb_register(s, a, b),
+        82 => lb::gomxeli_lb_unregister(s, a),
+        83 => lb::gomxeli_lb_hub_push_start(s, a),
+        _ => lb::gomxeli_lb_hub_push_next(s),
+    }
+}
+
+fn requests_call(s: &mut [u8], op: u64, a: u32, b: u32) -> u64 {
+    match op {
+        90 => req::gomxeli_req_open(s),
+        91 => req::gomxeli_req_register(s, a, b),
+        92 => req::gomxeli_req_unregister(s, a),
+        _ => req::gomxeli_req_poll_push(s, a, (b % 256) as u8),
+    }
+}
+
 // The last of `n` frame bytes is `last`.
 fn frame_call(n: u32, last: u32) -> u64 {
     let k = (n % 65) as usize;
@@ -159,49 +181,43 @@ fn write_answer(answer: u64) {
     io::write_all(1, b"\n");
 }
 
-// Makes the line's call and writes its answer.
-fn answered(
-    line: Line,
-    lists: &mut [u8],
-    keys: &mut [u8],
-    registry: &mut [u8],
-    image: &mut [u8],
-) -> Line {
-    let op = line.op;
+// The states, one after the other: a list queue (514 bytes at most), a key queue (9,979 at most), the regular registry, the image,
+// the loop-back registry, the requests.
+fn answer_of(states: &mut [u8], line: Line, a: u32, b: u32) -> u64
+    requires { ⌜ length (now states) ≡ 13327 ⌝ }
+{
+    match line.op / 10 {
+        1 => on_lists(&mut states[0..514], line.lists, line.op, a, b),
+        3 => on_keys(&mut states[514..10493], line.keys, line.op, a, b),
+        4 => on_keys(&mut states[514..10493], line.keys, line.op, a, b),
+        5 => frame_call(a, b),
+        6 => registry_call(&mut states[10493..11529], line.op, a, b),
+        7 => image_call(&mut states[11529..12553], line.op, a, b),
+        8 => loop_back_call(&mut states[12553..12942], line.op, a, b),
+        _ => requests_call(&mut states[12942..13327], line.op, a, b),
+    }
+}
+
+// Makes the line's call and writes its answer; the next line begins.
+fn answered(line: Line, states: &mut [u8]) -> Line
+    requires { ⌜ length (now states) ≡ 13327 ⌝ }
+{
     let a = low32(line.a);
     let b = low32(line.b);
     let out = with_lengths(line);
-    if op < 30 {
-        write_answer(on_lists(lists, out.lists, op, a, b));
-        return out;
-    }
-    if op < 50 {
-        write_answer(on_keys(keys, out.keys, op, a, b));
-        return out;
-    }
-    if op < 60 {
-        write_answer(frame_call(a, b));
-        return out;
-    }
-    if op < 70 {
-        write_answer(registry_call(registry, op, a, b));
-        return out;
-    }
-    write_answer(image_call(image, op, a, b));
+    let mut sized = line;
+    sized.lists = out.lists;
+    sized.keys = out.keys;
+    write_answer(answer_of(states, sized, a, b));
     out
 }
 
 // One more byte of the input.
-fn fed(
-    b: u8,
-    line: Line,
-    lists: &mut [u8],
-    keys: &mut [u8],
-    registry: &mut [u8],
-    image: &mut [u8],
-) -> Line {
+fn fed(b: u8, line: Line, states: &mut [u8]) -> Line
+    requires { ⌜ length (now states) ≡ 13327 ⌝ }
+{
     if b == 10 {
-        return answered(line, lists, keys, registry, image);
+        return answered(line, states);
     }
     if b == 32 {
         return with_blank(line);
@@ -212,18 +228,13 @@ fn fed(
     with_digit(line, b - 48)
 }
 
-fn fed_all(
-    chunk: &[u8],
-    line: Line,
-    lists: &mut [u8],
-    keys: &mut [u8],
-    registry: &mut [u8],
-    image: &mut [u8],
-) -> Line {
+fn fed_all(chunk: &[u8], line: Line, states: &mut [u8]) -> Line
+    requires { ⌜ length (now states) ≡ 13327 ⌝ }
+{
     let mut out = line;
     let mut i = 0;
     while i < chunk.len() {
-        out = fed(chunk[i], out, lists, keys, registry, image);
+        out = fed(chunk[i], out, states);
         i += 1;
     }
     out
@@ -231,10 +242,7 @@ fn fed_all(
 
 // A proved loop has to end, and nothing says that the input does: the turns count down from a number that no run uses up.
 fn main() {
-    let mut lists = [0u8; 514];
-    let mut keys = [0u8; 9979];
-    let mut registry = [0u8; 1036];
-    let mut image = [0u8; 1024];
+    let mut states = [0u8; 13327];
     let mut chunk = [0u8; 4096];
     let mut line = started(0, 0);
     let mut turns = u64::MAX;
@@ -243,14 +251,7 @@ fn main() {
         if n == 0 {
             break;
         }
-        line = fed_all(
-            &chunk[..n],
-            line,
-            &mut lists,
-            &mut keys,
-            &mut registry,
-            &mut image,
-        );
+        line = fed_all(&chunk[..n], line, &mut states);
         turns -= 1;
     }
 }

@@ -18,9 +18,11 @@ use Rattle.multi_cycle_list.specs.Inner.{Marked}
 use Rattle.multi_cycle_list.proofs.Laid.{read-fair}
 use Rattle.entry_tree.specs.Places as tree
 use Rattle.regular.specs.Registry as registry
-use Rattle.regular.specs.Registry.{Registry, lastB, walkB}
-use Rattle.regular.specs.Bytes.{activePart, inactivePart, queuePart, walkOf, read, sizesB, wholeB}
-use Rattle.regular.specs.Inner.{markOf, pairsB, seenAfter, settledB, pointedB}
+use Rattle.entry_tree.specs.Walks.{walkOf}
+use Rattle.entry_tree.specs.Testing.{markOf, pairsB, seenAfter, pointedB}
+use Rattle.regular.specs.Registry.{Registry, lastB}
+use Rattle.regular.specs.Bytes.{activePart, inactivePart, queuePart, read, sizesB, wholeB}
+use Rattle.regular.specs.Inner.{settledB}
 use Rattle.regular.proofs.Testing.{Marks, Tested, sound, complete}
 
 -- ---- sizes
@@ -108,10 +110,10 @@ module _ (s seen : List ℕ) (g : Ground s seen) where
 
   -- ---- each test that fails
 
-  pub no-active : pairsB 0 1 3 seen 0 ((read s) .active) ≡ false → wholeB s ≡ false
+  pub no-active : pairsB 8191 1 0 1 3 seen 0 ((read s) .active) ≡ false → wholeB s ≡ false
   no-active f = false-of (wholeB s) (λ h. not-both (sym (tested h .active) ∙ f))
 
-  pub no-inactive : pairsB 2 2 4 (seenAfter 3 seen ((read s) .active)) 0 ((read s) .inactive) ≡ false → wholeB s ≡ false
+  pub no-inactive : pairsB 8191 1 2 2 4 (seenAfter 3 seen ((read s) .active)) 0 ((read s) .inactive) ≡ false → wholeB s ≡ false
   no-inactive f = false-of (wholeB s) (λ h. not-both (sym (tested h .inactive) ∙ f))
 
   pub no-settled : allB 128 (settledB (seenAfter 4 (seenAfter 3 seen ((read s) .active)) ((read s) .inactive))) ≡ false → wholeB s ≡ false
@@ -128,7 +130,7 @@ module _ (s seen : List ℕ) (g : Ground s seen) where
   of-points marks none f = refl
   of-points marks (some w) f = eq-eqb (markOf marks w) 3 (f w refl)
 
-  pub whole-last : pairsB 0 1 3 seen 0 ((read s) .active) ≡ true → pairsB 2 2 4 (seenAfter 3 seen ((read s) .active)) 0 ((read s) .inactive) ≡ true
+  pub whole-last : pairsB 8191 1 0 1 3 seen 0 ((read s) .active) ≡ true → pairsB 8191 1 2 2 4 (seenAfter 3 seen ((read s) .active)) 0 ((read s) .inactive) ≡ true
       → allB 128 (settledB (seenAfter 4 (seenAfter 3 seen ((read s) .active)) ((read s) .inactive))) ≡ true → lastB (read s) ≡ true
       → wholeB s ≡ pointedB (seenAfter 4 (seenAfter 3 seen ((read s) .active)) ((read s) .inactive)) ((read s) .walk)
   whole-last a i t l =

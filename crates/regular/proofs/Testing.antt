@@ -11,13 +11,15 @@ use lib.Dec.{eqb, leb, ltb}
 use lib.ListN.{length, getD}
 use borrow.Author.Tests.{ltb-true, leb-true, eqb-true, lt-ltb, le-leb, eq-eqb, ne-eqb}
 use Rattle.state.specs.Seq.{allB}
-use Rattle.state.proofs.Tests.{and-l, and-r, and-true, not-both, or-split}
+use Rattle.state.proofs.Tests.{and-l, and-r, and-true, same-test, or-split}
 use Rattle.state.proofs.Seq.{all-true, all-at}
 use Rattle.multi_cycle_list.specs.Lists as lists
 use Rattle.entry_tree.specs.Pairs.{Pair, count, isEntry, hasEntry, inRange, inOrder, past}
-use Rattle.regular.specs.Registry.{Registry, queued, onceB, queuesB, marksB, walkB, wholeB}
-use Rattle.regular.specs.Inner.{markOf, pairsB, seenAfter, settledB}
-use Rattle.regular.proofs.Passing.{Pass, count-own, count-off, pass-of, gaps-of, after-in, after-out, after-length, of-pass}
+use Rattle.entry_tree.specs.Walks.{walkB}
+use Rattle.entry_tree.specs.Testing.{markOf, pairsB, seenAfter, gapsB}
+use Rattle.entry_tree.proofs.Passing.{Pass, count-own, range-inside, pass-of, after-in, after-out, after-length, of-pass, order-same}
+use Rattle.regular.specs.Registry.{Registry, queued, onceB, queuesB, marksB, wholeB}
+use Rattle.regular.specs.Inner.{settledB}
 
 -- what the queue's test leaves: each entry's mark names its queue
 pub record Marks (cleanUp activation seen : List ℕ) : Type 0 where
@@ -31,8 +33,8 @@ pub record Marks (cleanUp activation seen : List ℕ) : Type 0 where
 -- ---- the nine conditions, apart
 
 pub record Conditions (m : Registry) : Type 0 where
-  pub range-i : inRange (m .inactive) ≡ true
-  pub range-a : inRange (m .active) ≡ true
+  pub range-i : inRange 8191 (m .inactive) ≡ true
+  pub range-a : inRange 8191 (m .active) ≡ true
   pub once : (e : ℕ) → e < 128 → count (isEntry e) (m .inactive) + count (isEntry e) (m .active) ≤ 1
   pub waiting : (e : ℕ) → e < 128 → lists.count e (m .activation) ≡ count (isEntry e) (m .inactive)
   pub marked : (e : ℕ) → e < 128 → lists.count e (m .cleanUp) ≤ count (isEntry e) (m .active)
@@ -62,13 +64,13 @@ module _ (m : Registry) where
   w3 = allB 128 (onceB m) && w4
 
   abbrev w2 : Bool
-  w2 = inRange (m .active) && w3
+  w2 = inRange 8191 (m .active) && w3
 
   pub conditions : wholeB m ≡ true → Conditions m
   unfolding wholeB
   conditions h =
-      let r2 = and-r (inRange (m .inactive)) w2 h in
-      let r3 = and-r (inRange (m .active)) w3 r2 in
+      let r2 = and-r (inRange 8191 (m .inactive)) w2 h in
+      let r3 = and-r (inRange 8191 (m .active)) w3 r2 in
       let r4 = and-r (allB 128 (onceB m)) w4 r3 in
       let r5 = and-r (allB 128 (queuesB m)) w5 r4 in
       let r6 = and-r (inOrder 0 (m .inactive)) w6 r5 in
@@ -76,8 +78,8 @@ module _ (m : Registry) where
       let r8 = and-r (marksB (m .cleanUp) 0 (m .active)) w8 r7 in
       let q : (e : ℕ) → e < 128 → queuesB m e ≡ true = λ e l. all-at 128 (queuesB m) (and-l (allB 128 (queuesB m)) w5 r4) e l in
       record {
-        range-i = and-l (inRange (m .inactive)) w2 h;
-        range-a = and-l (inRange (m .active)) w3 r2;
+        range-i = and-l (inRange 8191 (m .inactive)) w2 h;
+        range-a = and-l (inRange 8191 (m .active)) w3 r2;
         once = λ e l. leb-true (count (isEntry e) (m .inactive) + count (isEntry e) (m .active)) 1 (all-at 128 (onceB m) (and-l (allB 128 (onceB m)) w4 r3) e l);
         waiting = λ e l. eqb-true (lists.count e (m .activation)) (count (isEntry e) (m .inactive)) (and-l (eqb (lists.count e (m .activation)) (count (isEntry e) (m .inactive))) (leb (lists.count e (m .cleanUp)) (count (isEntry e) (m .active))) (q e l));
         marked = λ e l. leb-true (lists.count e (m .cleanUp)) (count (isEntry e) (m .active)) (and-r (eqb (lists.count e (m .activation)) (count (isEntry e) (m .inactive))) (leb (lists.count e (m .cleanUp)) (count (isEntry e) (m .active))) (q e l));
@@ -105,18 +107,17 @@ module _ (m : Registry) where
 -- ---- the code's tests
 
 pub record Tested (m : Registry) (seen : List ℕ) : Type 0 where
-  pub active : pairsB 0 1 3 seen 0 (m .active) ≡ true
-  pub inactive : pairsB 2 2 4 (seenAfter 3 seen (m .active)) 0 (m .inactive) ≡ true
+  pub active : pairsB 8191 1 0 1 3 seen 0 (m .active) ≡ true
+  pub inactive : pairsB 8191 1 2 2 4 (seenAfter 3 seen (m .active)) 0 (m .inactive) ≡ true
   pub settled : allB 128 (settledB (seenAfter 4 (seenAfter 3 seen (m .active)) (m .inactive))) ≡ true
   pub last : (not (m .lastGap) || leb (past 0 (m .active)) 8191) ≡ true
   pub walk : (e : ℕ) → m .walk ≡ some e → markOf (seenAfter 4 (seenAfter 3 seen (m .active)) (m .inactive)) e ≡ 3
 
-range-inside : (l : List Pair) (e : ℕ) → inRange l ≡ true → 0 < count (isEntry e) l → e ≤ 127
-range-inside [] e h i = absurd (omega (arith, i))
-range-inside (p ∷ l) e h i = elim (ℕ-discrete e (p .entry)) [
-  | yes q ↦ omega (arith, leb-true (p .entry) 127 (and-l (leb (p .entry) 127) (leb (p .subject) 8191 && inRange l) h))
-  | no q ↦ range-inside l e (and-r (leb (p .subject) 8191) (inRange l) (and-r (leb (p .entry) 127) (leb (p .subject) 8191 && inRange l) h)) (omega (arith, i, count-off e p l q))
-]
+-- marks that name the queued entries of a list ask for their gaps
+gaps-are : (ms seen : List ℕ) (from : ℕ) (l : List Pair) → ((e : ℕ) → 0 < count (isEntry e) l → eqb (markOf seen e) 1 ≡ queued e ms) → gapsB seen from l ≡ marksB ms from l
+gaps-are ms seen from [] f = refl
+gaps-are ms seen from (p ∷ l) f =
+    rw (f (p .entry) (omega (arith, count-own (p .entry) p l refl)), gaps-are ms seen (suc (p .subject)) l (λ e i. f e (omega (arith, i)))) refl
 
 no-marks : (from : ℕ) (l : List Pair) → marksB [] from l ≡ true
 unfolding lists.count
@@ -132,27 +133,32 @@ module _ (m : Registry) (seen : List ℕ) (n : length seen ≡ 256) (k : Marks (
   two = seenAfter 4 one (m .inactive)
 
   one-long : length one ≡ 256
-  one-long = after-length 0 1 3 (omega arith) seen (m .active) ∙ n
+  one-long = after-length 3 seen (m .active) ∙ n
+
+  marked-by : (e : ℕ) → e ≤ 127 → eqb (markOf seen e) 1 ≡ queued e (m .cleanUp)
+  marked-by e l = same-test (eqb (markOf seen e) 1) (queued e (m .cleanUp))
+      (λ q. lt-ltb 0 (lists.count e (m .cleanUp)) (k .of-clean-up e (omega arith) (eqb-true (markOf seen e) 1 q)))
+      (λ q. eq-eqb (markOf seen e) 1 (k .in-clean-up e (omega arith) (ltb-true 0 (lists.count e (m .cleanUp)) q)))
 
   module _ (t : Tested m seen) where
-    A : Pass 0 1 seen 0 (m .active)
-    A = pass-of 0 1 3 (omega arith) seen 0 (m .active) n (t .active)
+    A : Pass 8191 1 0 1 seen 0 (m .active)
+    A = pass-of 8191 1 0 1 3 (omega arith) seen 0 (m .active) n (t .active)
 
-    I : Pass 2 2 one 0 (m .inactive)
-    I = pass-of 2 2 4 (omega arith) one 0 (m .inactive) one-long (t .inactive)
+    I : Pass 8191 1 2 2 one 0 (m .inactive)
+    I = pass-of 8191 1 2 2 4 (omega arith) one 0 (m .inactive) one-long (t .inactive)
 
     -- an entry's counts and marks
     out : (e : ℕ) → count (isEntry e) (m .active) ≡ 0 → markOf one e ≡ markOf seen e
-    out e z = after-out 0 1 3 (omega arith) seen (m .active) e z
+    out e z = after-out 3 seen (m .active) e z
 
     in1 : (e : ℕ) → 0 < count (isEntry e) (m .active) → markOf one e ≡ 3
-    in1 e i = after-in 0 1 3 (omega arith) seen (m .active) e n (A .range) i
+    in1 e i = after-in 8191 3 seen (m .active) e n (A .range) i
 
     out2 : (e : ℕ) → count (isEntry e) (m .inactive) ≡ 0 → markOf two e ≡ markOf one e
-    out2 e z = after-out 2 2 4 (omega arith) one (m .inactive) e z
+    out2 e z = after-out 4 one (m .inactive) e z
 
     in2 : (e : ℕ) → 0 < count (isEntry e) (m .inactive) → markOf two e ≡ 4
-    in2 e i = after-in 2 2 4 (omega arith) one (m .inactive) e one-long (I .range) i
+    in2 e i = after-in 8191 4 one (m .inactive) e one-long (I .range) i
 
     settled-at : (e : ℕ) → e < 128 → (markOf two e ≡ 0) ⊎ (3 ≤ markOf two e)
     settled-at e l = ⊎-elim (λ h. inl (eqb-true (markOf two e) 0 h)) (λ h. inr (leb-true 3 (markOf two e) h)) (or-split (eqb (markOf two e) 0) (leb 3 (markOf two e)) (all-at 128 (settledB two) (t .settled) e l))
@@ -214,9 +220,9 @@ module _ (m : Registry) (seen : List ℕ) (n : length seen ≡ 256) (k : Marks (
       once = λ e l. once-both e;
       waiting = waiting-is;
       marked = marked-is;
-      order-i = I .order;
-      order-a = A .order;
-      marks = gaps-of 0 1 3 (omega arith) (m .cleanUp) seen 0 (m .active) n (t .active) (λ e i q. k .in-clean-up e (omega (arith, A .inside e i)) (ltb-true 0 (lists.count e (m .cleanUp)) q));
+      order-i = sym (order-same 0 (m .inactive)) ∙ I .order;
+      order-a = sym (order-same 0 (m .active)) ∙ A .order;
+      marks = sym (gaps-are (m .cleanUp) seen 0 (m .active) (λ e i. marked-by e (range-inside 8191 (m .active) (A .range) e i))) ∙ A .gaps;
       last = t .last;
       walk = walks (m .walk) refl;
     })
@@ -226,10 +232,10 @@ module _ (m : Registry) (seen : List ℕ) (n : length seen ≡ 256) (k : Marks (
     C = conditions m h
 
     inside-a : (e : ℕ) → 0 < count (isEntry e) (m .active) → e < 128
-    inside-a e i = omega (arith, range-inside (m .active) e (C .range-a) i)
+    inside-a e i = omega (arith, range-inside 8191 (m .active) (C .range-a) e i)
 
     inside-i : (e : ℕ) → 0 < count (isEntry e) (m .inactive) → e < 128
-    inside-i e i = omega (arith, range-inside (m .inactive) e (C .range-i) i)
+    inside-i e i = omega (arith, range-inside 8191 (m .inactive) (C .range-i) e i)
 
     -- no entry is registered twice, nor beyond 127
     once-all : (e : ℕ) → count (isEntry e) (m .inactive) + count (isEntry e) (m .active) ≤ 1
@@ -250,15 +256,19 @@ module _ (m : Registry) (seen : List ℕ) (n : length seen ≡ 256) (k : Marks (
     inactive-mark : (e : ℕ) → 0 < count (isEntry e) (m .inactive) → markOf one e ≡ 2
     inactive-mark e i =
         let l = inside-i e i in
-        after-out 0 1 3 (omega arith) seen (m .active) e (omega (arith, once-all e)) ∙ k .in-activation e l (omega (arith, C .waiting e l))
+        after-out 3 seen (m .active) e (omega (arith, once-all e)) ∙ k .in-activation e l (omega (arith, C .waiting e l))
+
+    unqueued : (e : ℕ) → markOf one e ≡ 2 → eqb (markOf one e) 1 ≡ queued e []
+    unfolding lists.count
+    unqueued e q = ne-eqb (markOf one e) 1 (λ z. omega arith)
 
     settles : (e : ℕ) → e < 128 → settledB two e ≡ true
     settles e l = elim (ℕ-discrete (count (isEntry e) (m .inactive)) 0) [
-      | no z ↦ met (markOf two e) (omega (arith, after-in 2 2 4 (omega arith) one (m .inactive) e one-long (C .range-i) (omega arith)))
+      | no z ↦ met (markOf two e) (omega (arith, after-in 8191 4 one (m .inactive) e one-long (C .range-i) (omega arith)))
       | yes z ↦ elim (ℕ-discrete (count (isEntry e) (m .active)) 0) [
-        | no x ↦ met (markOf two e) (omega (arith, after-out 2 2 4 (omega arith) one (m .inactive) e z, after-in 0 1 3 (omega arith) seen (m .active) e n (C .range-a) (omega arith)))
+        | no x ↦ met (markOf two e) (omega (arith, after-out 4 one (m .inactive) e z, after-in 8191 3 seen (m .active) e n (C .range-a) (omega arith)))
         | yes x ↦ unmet (markOf two e) (elim (ℕ-discrete (markOf seen e) 0) [
-          | yes v ↦ omega (arith, after-out 2 2 4 (omega arith) one (m .inactive) e z, after-out 0 1 3 (omega arith) seen (m .active) e x)
+          | yes v ↦ omega (arith, after-out 4 one (m .inactive) e z, after-out 3 seen (m .active) e x)
           | no v ↦ elim (ℕ-discrete (markOf seen e) 1) [
             | yes u ↦ absurd (omega (arith, k .of-clean-up e l u, C .marked e l))
             | no u ↦ absurd (omega (arith, k .of-activation e l (omega (arith, k .most e l)), C .waiting e l))
@@ -275,15 +285,23 @@ module _ (m : Registry) (seen : List ℕ) (n : length seen ≡ 256) (k : Marks (
 
     pub complete : Tested m seen
     complete = record {
-      active = of-pass 0 1 3 (omega arith) (m .cleanUp) seen 0 (m .active) n
-          (record { range = C .range-a; order = C .order-a; inside = λ e i. omega (arith, inside-a e i); once = λ e. omega (arith, once-all e); marks = λ e i. (omega arith, active-mark e i) })
-          (λ e i v. lt-ltb 0 (lists.count e (m .cleanUp)) (k .of-clean-up e (inside-a e i) v)) (C .marks);
-      inactive = of-pass 2 2 4 (omega arith) [] one 0 (m .inactive) one-long
-          (record { range = C .range-i; order = C .order-i; inside = λ e i. omega (arith, inside-i e i); once = λ e. omega (arith, once-all e); marks = λ e i. (omega (arith, inactive-mark e i), omega (arith, inactive-mark e i)) })
-          (λ e i v. absurd (omega (arith, inactive-mark e i))) (no-marks 0 (m .inactive));
+      active = of-pass 8191 1 0 1 3 (omega arith) seen 0 (m .active) n (record {
+        range = C .range-a;
+        order = order-same 0 (m .active) ∙ C .order-a;
+        once = λ e. omega (arith, once-all e);
+        marks = λ e i. (omega arith, active-mark e i);
+        gaps = gaps-are (m .cleanUp) seen 0 (m .active) (λ e i. marked-by e (omega (arith, inside-a e i))) ∙ C .marks;
+      });
+      inactive = of-pass 8191 1 2 2 4 (omega arith) one 0 (m .inactive) one-long (record {
+        range = C .range-i;
+        order = order-same 0 (m .inactive) ∙ C .order-i;
+        once = λ e. omega (arith, once-all e);
+        marks = λ e i. (omega (arith, inactive-mark e i), omega (arith, inactive-mark e i));
+        gaps = gaps-are [] one 0 (m .inactive) (λ e i. unqueued e (inactive-mark e i)) ∙ no-marks 0 (m .inactive);
+      });
       settled = all-true 128 (settledB two) settles;
       last = C .last;
       walk = λ e q.
           let i : 0 < count (isEntry e) (m .active) = ltb-true 0 (count (isEntry e) (m .active)) (ap (walkB (m .active)) (sym q) ∙ C .walk) in
-          after-out 2 2 4 (omega arith) one (m .inactive) e (omega (arith, once-all e)) ∙ after-in 0 1 3 (omega arith) seen (m .active) e n (C .range-a) i;
+          after-out 4 one (m .inactive) e (omega (arith, once-all e)) ∙ after-in 8191 3 seen (m .active) e n (C .range-a) i;
     }

@@ -6,15 +6,15 @@
 --   1035   the walk: the entry that it points at, or any byte from 128 on if none
 use Prim.Native.Nat.{ℕ, suc, _+_, _*_, _/_, _%_}
 use mathlib.Core.List.{List, [], _∷_, _++_}
-use mathlib.Core.Option.{Option, none, some}
 use mathlib.Core.Bool.{Bool, true, false, cond, not, _&&_}
-use lib.Dec.{eqb, leb, ltb}
+use lib.Dec.{eqb, leb}
 use lib.ListN.{length, getD, take, drop}
 use Rattle.state.specs.Lengths.{regularLength}
 use Rattle.multi_cycle_list.specs.Lists.{Lists}
 use Rattle.multi_cycle_list.specs.Nodes as nodes
 use Rattle.multi_cycle_list.specs.Laid as lists
 use Rattle.entry_tree.specs.Places as tree
+use Rattle.entry_tree.specs.Walks.{walkOf, walkOver}
 use Rattle.regular.specs.Registry as registry
 use Rattle.regular.specs.Registry.{Registry}
 
@@ -29,9 +29,6 @@ queuePart b = take 262 (drop 770 b)
 
 abbrev pub slotsOf : List ℕ → ℕ
 slotsOf b = getD b 1032 0 + 256 * getD b 1033 0
-
-abbrev pub walkOf : ℕ → Option ℕ
-walkOf w = cond (ltb w 128) (some w) none
 
 abbrev pub read : List ℕ → Registry
 read b = record {
@@ -54,14 +51,10 @@ wholeB b = eqb (length b) regularLength && (sizesB b && (nodes.wholeB (queuePart
 
 -- ---- the bytes of a meaning, over the old ones
 
--- a flag over the old byte, and a walk: a byte that says the same stays
+-- a flag over the old byte: one that says the same stays
 abbrev pub flagOver : Bool → ℕ → ℕ
 flagOver false v = 0
 flagOver true v = cond (eqb v 0) 1 v
-
-abbrev pub walkOver : Option ℕ → ℕ → ℕ
-walkOver none v = cond (ltb v 128) 255 v
-walkOver (some e) v = e
 
 abbrev pub queueOf : Registry → Lists
 queueOf m = record { entries = 128; rows = m .cleanUp ∷ (m .activation ∷ []) }

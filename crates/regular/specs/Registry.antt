@@ -1,12 +1,13 @@
 -- The regular registry in plain words, and when it is whole.
 use Prim.Native.Nat.{ℕ, suc, _+_}
 use mathlib.Core.List.{List, [], _∷_}
-use mathlib.Core.Option.{Option, none, some}
+use mathlib.Core.Option.{Option, none}
 use mathlib.Core.Bool.{Bool, true, false, not, _&&_, _||_}
 use lib.Dec.{eqb, leb, ltb}
 use Rattle.state.specs.Seq.{allB}
 use Rattle.multi_cycle_list.specs.Lists as lists
-use Rattle.entry_tree.specs.Pairs.{Pair, count, isEntry, hasEntry, past, inOrder, inRange}
+use Rattle.entry_tree.specs.Pairs.{Pair, count, isEntry, past, inOrder, inRange}
+use Rattle.entry_tree.specs.Walks.{walkB}
 
 pub record Registry : Type 0 where
   -- both trees, in subject order
@@ -47,13 +48,9 @@ marksB marks from (p ∷ l) = (not (queued (p .entry) marks) || ltb from (p .sub
 abbrev pub lastB : Registry → Bool
 lastB m = not (m .lastGap) || leb (past 0 (m .active)) 8191
 
-abbrev pub walkB : List Pair → Option ℕ → Bool
-walkB l none = true
-walkB l (some e) = hasEntry e l
-
 unfoldable pub wholeB : Registry → Bool
 wholeB m =
-    inRange (m .inactive) && (inRange (m .active)
+    inRange 8191 (m .inactive) && (inRange 8191 (m .active)
     && (allB 128 (onceB m)
     && (allB 128 (queuesB m)
     && (inOrder 0 (m .inactive) && (inOrder 0 (m .active)

@@ -8,6 +8,7 @@ use lib.ListN.{length}
 use Rattle.state.specs.Result.{Result, refuse, done}
 use Rattle.multi_cycle_list.specs.Lists as lists
 use Rattle.entry_tree.specs.Pairs.{Pair, pair, Place, bit, hasEntry, hasSubject, without, inserted, placeOf, past}
+use Rattle.entry_tree.specs.Walks.{isSome, firstOn, nextOn, movedPast}
 use Rattle.regular.specs.Registry.{Registry, queued}
 use Rattle.regular.specs.declared.Answer.{Answer}
 use Rattle.regular.specs.declared.Answer.the-variants.{Refused, Accepted, AddSubject, RemoveSubjectRange, Nothing, Started, Pushed, NotPushed}
@@ -57,18 +58,12 @@ isHead p = leb (p .from) (p .subject)
 abbrev pub gaps : ℕ → Place → List ℕ → Bool → Gaps
 gaps e p marks f = cond (isHead p) (headGaps e (p .subject) (p .rest) marks f) (record { cleanUp = marks; lastGap = f; more = 0 })
 
--- the next entry after one on the subject x, if that is no head
-abbrev pub nextOn : ℕ → List Pair → Option ℕ
-nextOn x [] = none
-nextOn x (q ∷ l) = cond (ltb x (q .subject)) none (some (q .entry))
-
--- a walk that points at the removed entry e goes on
-abbrev pub walkPast : ℕ → Place → Option ℕ → Option ℕ
-walkPast e p none = none
-walkPast e p (some w) = cond (eqb w e) (nextOn (p .subject) (p .rest)) (some w)
+-- where a walk goes on from an entry's place, and where the entry's removal moves it: to the next, if that is no head
+abbrev pub goesOn : Place → Option ℕ
+goesOn p = nextOn (p .subject) (p .rest)
 
 abbrev pub leaves : ℕ → Place → Gaps → Registry → Registry
-leaves e p g m = record { inactive = m .inactive; active = without e (m .active); activation = m .activation; cleanUp = g .cleanUp; lastGap = g .lastGap; slots = m .slots + g .more; walk = walkPast e p (m .walk) }
+leaves e p g m = record { inactive = m .inactive; active = without e (m .active); activation = m .activation; cleanUp = g .cleanUp; lastGap = g .lastGap; slots = m .slots + g .more; walk = movedPast e (goesOn p) (m .walk) }
 
 abbrev pub unregisterActive : ℕ → Place → Gaps → Registry → Result Answer Registry
 unregisterActive e p g m = cond (ltb 65535 (m .slots + g .more)) (refuse (Refused 9)) (done (Accepted (ltb 0 (g .more))) (leaves e p g m))
@@ -127,14 +122,6 @@ pollPop m = steps (suc (length (m .activation))) m
 
 -- ---- walking
 
-abbrev pub firstOn : ℕ → List Pair → Option ℕ
-firstOn x [] = none
-firstOn x (p ∷ l) = cond (eqb x (p .subject)) (some (p .entry)) (firstOn x l)
-
-abbrev pub isSome : Option ℕ → Bool
-isSome none = false
-isSome (some e) = true
-
 abbrev pub withWalk : Option ℕ → Registry → Registry
 withWalk w m = record { inactive = m .inactive; active = m .active; activation = m .activation; cleanUp = m .cleanUp; lastGap = m .lastGap; slots = m .slots; walk = w }
 
@@ -142,7 +129,7 @@ unfoldable pub hubPushStart : ℕ → Registry → Result Answer Registry
 hubPushStart x m = cond (ltb 8191 x) (refuse (Refused 3)) (done (Started (isSome (firstOn x (m .active)))) (withWalk (firstOn x (m .active)) m))
 
 abbrev pub pushAt : ℕ → Place → Registry → Result Answer Registry
-pushAt e p m = done (Pushed e (isSome (nextOn (p .subject) (p .rest)))) (withWalk (nextOn (p .subject) (p .rest)) m)
+pushAt e p m = done (Pushed e (isSome (goesOn p))) (withWalk (goesOn p) m)
 
 abbrev pub pushNext : Option ℕ → Registry → Result Answer Registry
 pushNext none m = done NotPushed m

@@ -26,27 +26,30 @@ use Rattle.multi_cycle_list.proofs.Laid as queues
 use Rattle.multi_cycle_list.proofs.Changes.{remove-fair, back-fair, empty-fair}
 use Rattle.entry_tree.specs.Pairs.{Pair, pair, bit, count, isEntry, onSubject, hasEntry, hasSubject, inserted, without, position, placeOf, Place, past, inOrder}
 use Rattle.entry_tree.specs.Places as tree
-use Rattle.entry_tree.specs.Inner.{removedAt}
+use Rattle.entry_tree.specs.Inner.{removedAt, walkAt, withWalkPast}
 use Rattle.entry_tree.proofs.Laid as trees
 use Rattle.entry_tree.proofs.Changes.{removed-without, removed-length, inserted-length}
 use Rattle.entry_tree.proofs.Reading.{read-length, read-any, read-place-subject}
+use Rattle.entry_tree.specs.Walks.{nextOn, movedPast, walkOf, walkOver}
+use Rattle.state.proofs.Bytes.{bytes-part}
+use Rattle.entry_tree.proofs.Finding.{place-in, place-next, removed-is}
+use Rattle.entry_tree.proofs.Walking.{walk-past, walk-stays, past-here, past-other, find-rest}
+use Rattle.entry_tree.proofs.Once.{empty-tree}
 use Rattle.regular.specs.Registry.{Registry, fresh, queued}
-use Rattle.regular.specs.Bytes.{activePart, inactivePart, queuePart, read, wholeB, flagOver, walkOver, walkOf, queueOf, laid}
-use Rattle.regular.specs.Steps.{waits, joins, leavesInactive, leaves, Gaps, gaps, headGaps, isHead, newMark, nextOn, walkPast, withCleanUp, Step, stepBy, innerStep, activates, becomesActive}
+use Rattle.regular.specs.Bytes.{activePart, inactivePart, queuePart, read, wholeB, flagOver, queueOf, laid}
+use Rattle.regular.specs.Steps.{waits, joins, leavesInactive, leaves, Gaps, gaps, headGaps, isHead, newMark, goesOn, withCleanUp, Step, stepBy, innerStep, activates, becomesActive}
 use Rattle.regular.proofs.Parts.{Joined, put-active, put-inactive, put-queue, set-tail, tail-at, active-is, inactive-is, queue-is}
 use Rattle.regular.proofs.Grounds.{sizes-of}
 use Rattle.regular_fair.proofs.Facts.{Facts, at-most}
-use Rattle.regular_fair.proofs.Count.{few-entries}
-use Rattle.regular_fair.proofs.Good.{find-rest}
+use Rattle.entry_tree.proofs.Count.{few-entries}
 use Rattle.regular_fair.proofs.Places.{mark-range, next-range}
 use Rattle.regular_fair.proofs.Poll.{step-front, step-last, step-next}
 use Rattle.regular_fair.proofs.Reading.{parts, read-facts, queue-fair}
-use Rattle.regular_fair.proofs.Round.{tailOf, tailLaid, split-long, split-whole, laid-joined, laid-from, queue-read, bytes-part, active-self, inactive-self, queue-self, low-self, high-self, flag-self, walk-self}
-use Rattle.regular_change.specs.Inner.{walkAt, fromAt, gapBefore, gapOf, more, withSlots, withFlag, withWalk, withWalkPast}
+use Rattle.regular_fair.proofs.Round.{tailOf, tailLaid, split-long, split-whole, laid-joined, laid-from, queue-read, active-self, inactive-self, queue-self, low-self, high-self, flag-self, walk-self}
+use Rattle.regular_change.specs.Inner.{fromAt, gapBefore, gapOf, more, withSlots, withFlag}
 use Rattle.regular.specs.declared.Popped.the-variants as pops
-use Rattle.regular_change.proofs.Looks.{place-from-at, place-next}
-use Rattle.regular_change.specs.declared.look.Walk.{Walk}
-use Rattle.regular_change.specs.declared.look.Walk.the-variants.{At, Ended}
+use Rattle.regular_change.proofs.Looks.{place-from-at}
+use Rattle.entry_tree.specs.declared.walk.Walk.{Walk}
 use Rattle.regular_change.specs.declared.look.Gap.{Gap}
 use Rattle.regular_change.specs.declared.look.Gap.the-variants.{Same, Withdrawn, Marked, Last}
 
@@ -59,28 +62,6 @@ module _ (s : List ℕ) where
   pub flag-old : getD s 1034 0 ≢ 0 → s ≡ withFlag s true
   flag-old q = sym (rw (ne-eqb (getD s 1034 0) 0 q) (set-getD s 1034 0))
 
-  pub walk-to : (w : Walk) (e : ℕ) → w ≡ At e → set s 1035 e ≡ withWalk s (walkAt w)
-  walk-to w e q = rw q
-
-  pub walk-ends : (w : Walk) → w ≡ Ended → getD s 1035 0 < 128 → set s 1035 255 ≡ withWalk s (walkAt w)
-  walk-ends w q l = rw (q, lt-ltb (getD s 1035 0) 128 l)
-
-  pub walk-ended : (w : Walk) → w ≡ Ended → 128 ≤ getD s 1035 0 → s ≡ withWalk s (walkAt w)
-  walk-ended w q l = sym (rw (q, le-ltb (getD s 1035 0) 128 l) (set-getD s 1035 0))
-
-pub walk-past : (s : List ℕ) (e : ℕ) (w : Option ℕ) → getD s 1035 0 ≡ e → withWalk s w ≡ withWalkPast s e w
-walk-past s e w q = rw (eq-eqb (getD s 1035 0) e q)
-
-pub walk-stays : (s : List ℕ) (e : ℕ) (w : Option ℕ) → getD s 1035 0 ≢ e → s ≡ withWalkPast s e w
-walk-stays s e w q = rw (ne-eqb (getD s 1035 0) e q)
-
--- a walk's byte v and the removed entry e
-past-here : (v e : ℕ) (p : Place) → v ≡ e → e < 128 → walkPast e p (walkOf v) ≡ nextOn (p .subject) (p .rest)
-past-here v e p q l = rw (lt-ltb v 128 (omega arith), eq-eqb v e q)
-
-past-other : (v e : ℕ) (p : Place) → v ≢ e → walkPast e p (walkOf v) ≡ walkOf v
-past-other v e p q = by-cond (λ (o : Option ℕ). walkPast e p o ≡ o) (ltb v 128) {a = some v} {b = none} (λ t. rw (ne-eqb v e q)) (λ t. refl)
-
 -- ---- opening
 
 unfoldable zeros : List ℕ
@@ -89,11 +70,6 @@ zeros = replicate 1036 0
 zero-at : (i : ℕ) → i < 1036 → getD zeros i 0 ≡ 0
 unfolding zeros
 zero-at i l = getD-replicate {A = ℕ} 1036 i 0 0 l
-
--- a tree of no pairs, over bytes that say so
-empty-tree : (t : List ℕ) → length t ≡ 385 → Bytes t → tree.size t ≡ 0 → t ≡ tree.laid [] t
-unfolding tree.read each
-empty-tree t l y z = sym (trees.laid-read t l (omega arith) y) ∙ ap (λ (n : ℕ). tree.laid (each n (tree.pairAt t)) t) z
 
 pub opened : (n : ℕ) → set (withSlots (putMid 770 262 (replicate 1036 0) (listsLaid.laid (empty 2 128))) n) 1035 255 ≡ laid (fresh n) (replicate 1036 0)
 unfolding zeros
@@ -327,10 +303,7 @@ module _ (b : List ℕ) (y : Bytes b) (h : wholeB b ≡ true) where
 
   -- the place of an entry that a tree has
   placed-in : (t : List ℕ) (e i : ℕ) → i ≡ position (isEntry e) (tree.read t) → hasEntry e (tree.read t) ≡ true → i < tree.size t
-  placed-in t e i q k = omega (arith, ltb-true (position (isEntry e) (tree.read t)) (tree.size t) (sym (read-any (isEntry e) t) ∙ k))
-
-  removed-is : (t : List ℕ) (e i : ℕ) → i ≡ position (isEntry e) (tree.read t) → i < tree.size t → count (isEntry e) (tree.read t) ≤ 1 → removedAt i (tree.read t) ≡ without e (tree.read t)
-  removed-is t e i q l u = ap (λ (k : ℕ). removedAt k (tree.read t)) q ∙ removed-without e (tree.read t) u (omega (arith, read-length t))
+  placed-in t e i q k = omega (arith, place-in t (isEntry e) k)
 
   -- ---- an inactive entry leaves
 
@@ -627,28 +600,28 @@ module _ (b : List ℕ) (y : Bytes b) (h : wholeB b ≡ true) where
 
         pub record Walked : Type 0 where
           pub byte : ℕ
-          pub joined : Joined (withWalkPast sc e (walkAt w)) (tree.laid (m .active) A) (tree.laid (m .inactive) I) (listsLaid.laid (queueOf c1)) (m .slots % 256 ∷ (m .slots / 256 ∷ (flagOver (g .lastGap) (getD b 1034 0) ∷ (byte ∷ []))))
-          pub is : byte ≡ walkOver (walkPast e p (m .walk)) (getD b 1035 0)
+          pub joined : Joined (withWalkPast 1035 sc e (walkAt w)) (tree.laid (m .active) A) (tree.laid (m .inactive) I) (listsLaid.laid (queueOf c1)) (m .slots % 256 ∷ (m .slots / 256 ∷ (flagOver (g .lastGap) (getD b 1034 0) ∷ (byte ∷ []))))
+          pub is : byte ≡ walkOver (movedPast e (goesOn p) (m .walk)) (getD b 1035 0)
 
         pub walked : Walked
         walked = elim (ℕ-discrete (getD sc 1035 0) e) [
           | yes q ↦ record {
             byte = walkOver (walkAt w) (getD sc 1035 0);
             joined = subst (λ (z : List ℕ). Joined z (tree.laid (m .active) A) (tree.laid (m .inactive) I) (listsLaid.laid (queueOf c1)) (m .slots % 256 ∷ (m .slots / 256 ∷ (flagOver (g .lastGap) (getD b 1034 0) ∷ (walkOver (walkAt w) (getD sc 1035 0) ∷ [])))))
-                (walk-past sc e (walkAt w) q) (set-tail sc (tree.laid (m .active) A) (tree.laid (m .inactive) I) (listsLaid.laid (queueOf c1)) (tailLaid c1 b) Jc 3 (walkOver (walkAt w) (getD sc 1035 0)) (omega arith));
-            is = ap (walkOver (walkAt w)) byte-is ∙ ap (λ (o : Option ℕ). walkOver o (getD b 1035 0)) (wq ∙ sym (place-next A e i at place-active) ∙ sym (past-here (getD b 1035 0) e p (sym byte-is ∙ q) active-entry));
+                (walk-past 1035 sc e (walkAt w) q) (set-tail sc (tree.laid (m .active) A) (tree.laid (m .inactive) I) (listsLaid.laid (queueOf c1)) (tailLaid c1 b) Jc 3 (walkOver (walkAt w) (getD sc 1035 0)) (omega arith));
+            is = ap (walkOver (walkAt w)) byte-is ∙ ap (λ (o : Option ℕ). walkOver o (getD b 1035 0)) (wq ∙ sym (place-next A e i at place-active) ∙ sym (past-here (getD b 1035 0) e (goesOn p) (sym byte-is ∙ q) active-entry));
           }
           | no q ↦ record {
             byte = walkOver (m .walk) (getD b 1035 0);
-            joined = subst (λ (z : List ℕ). Joined z (tree.laid (m .active) A) (tree.laid (m .inactive) I) (listsLaid.laid (queueOf c1)) (tailLaid c1 b)) (walk-stays sc e (walkAt w) q) Jc;
-            is = ap (λ (o : Option ℕ). walkOver o (getD b 1035 0)) (sym (past-other (getD b 1035 0) e p (λ z. q (byte-is ∙ z))));
+            joined = subst (λ (z : List ℕ). Joined z (tree.laid (m .active) A) (tree.laid (m .inactive) I) (listsLaid.laid (queueOf c1)) (tailLaid c1 b)) (walk-stays 1035 sc e (walkAt w) q) Jc;
+            is = ap (λ (o : Option ℕ). walkOver o (getD b 1035 0)) (sym (past-other (getD b 1035 0) e (goesOn p) (λ z. q (byte-is ∙ z))));
           }
         ]
 
       -- the walk's byte, the counter, the tree
       module _ (w : Option ℕ) (s : List ℕ) (v : ℕ)
           (j : Joined s (tree.laid (m .active) A) (tree.laid (m .inactive) I) (listsLaid.laid (queueOf c1)) (m .slots % 256 ∷ (m .slots / 256 ∷ (flagOver (g .lastGap) (getD b 1034 0) ∷ (v ∷ [])))))
-          (n : ℕ) (nq : n ≡ m .slots + g .more) (vq : v ≡ walkOver (walkPast e p (m .walk)) (getD b 1035 0)) where
+          (n : ℕ) (nq : n ≡ m .slots + g .more) (vq : v ≡ walkOver (movedPast e (goesOn p) (m .walk)) (getD b 1035 0)) where
         pub active-then : activePart (withSlots s n) ≡ A
         active-then =
             let T0 = m .slots % 256 ∷ (m .slots / 256 ∷ (flagOver (g .lastGap) (getD b 1034 0) ∷ (v ∷ []))) in

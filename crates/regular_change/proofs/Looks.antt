@@ -23,13 +23,14 @@ use Rattle.entry_tree.specs.Inner.{removedAt}
 use Rattle.entry_tree.proofs.Lists.{none, place-rest}
 use Rattle.entry_tree.proofs.Reading.{read-length, read-at, read-any, read-place-subject, read-place-first, read-place-from}
 use Rattle.entry_tree.proofs.Changes.{range-at, removed-without}
+use Rattle.entry_tree.proofs.Finding.{place-rest-at, drop-end, drop-next, entry-place, entry-counts, few-others}
 use Rattle.regular.specs.Registry.{queued}
-use Rattle.regular.specs.Steps.{newMark, nextOn}
+use Rattle.regular.specs.Steps.{newMark}
 use Rattle.regular.specs.Bytes.{activePart, inactivePart, queuePart, read, wholeB, queueOf}
 use Rattle.regular.proofs.Grounds.{sizes-of, two-counts}
 use Rattle.regular.proofs.Parts as parts
 use Rattle.regular.proofs.Testing.{Conditions, conditions}
-use Rattle.regular_fair.proofs.Count.{same, diff, compareEq, eqb-self, any-true, any-false, true-any, count-append, few-entries}
+use Rattle.entry_tree.proofs.Count.{same, diff, compareEq, eqb-self, any-true, any-false, true-any, count-append, few-entries}
 use Rattle.regular_fair.proofs.Queue.{count-first}
 use Rattle.regular_fair.proofs.Facts.{Facts, at-most}
 use Rattle.regular_fair.proofs.Reading as reading
@@ -37,69 +38,14 @@ use Rattle.regular_change.specs.Inner.{fromAt, gapBefore, gapOf}
 use Rattle.regular_change.specs.declared.look.Gap.{Gap}
 use Rattle.regular_change.specs.declared.look.Gap.the-variants.{Same, Withdrawn, Marked, Last}
 
--- ---- a pair that alone passes a test
-
-module _ (test : Pair → Bool) where
-  pub count-at : (l : List Pair) (i : ℕ) → i < length l → test (getD l i none) ≡ true → 0 < count test l
-  count-at [] i h q = absurd (not-suc-le-zero h)
-  count-at (p ∷ l) zero h q = rw q (omega arith)
-  count-at (p ∷ l) (suc i) h q = omega (arith, count-at l i (omega arith) q)
-
-  pub position-once : (l : List Pair) (i : ℕ) → i < length l → test (getD l i none) ≡ true → count test l ≤ 1 → position test l ≡ i
-  position-once [] i h q u = absurd (not-suc-le-zero h)
-  position-once (p ∷ l) zero h q u = ap (λ (b : Bool). cond b 0 (suc (position test l))) q
-  position-once (p ∷ l) (suc i) h q u = cases (test p) u (count-at l i (omega arith) q) (position-once l i (omega arith) q)
-    where
-      cases : (b : Bool) → bit b + count test l ≤ 1 → 0 < count test l → (count test l ≤ 1 → position test l ≡ i) → cond b 0 (suc (position test l)) ≡ suc i
-      cases true u n r = absurd (omega (arith, u, n))
-      cases false u n r = ap suc (r (omega (arith, u)))
-
--- ---- a tree's places
+-- ---- the first subject past the pair before a place
 
 module _ (t : List ℕ) where
-  -- the code's test of a place that it found
-  pub found-is : (test : Pair → Bool) (i n : ℕ) → i ≡ position test (tree.read t) → n ≡ size t → ltb i n ≡ any test (tree.read t)
-  found-is test i n p q = rw (p, q) (sym (read-any test t))
-
-  pub place-in : (test : Pair → Bool) → any test (tree.read t) ≡ true → position test (tree.read t) < size t
-  place-in test h = ltb-true (position test (tree.read t)) (size t) (sym (read-any test t) ∙ h)
-
-  entry-passes : (i : ℕ) → i < size t → isEntry (entryAt t i) (getD (tree.read t) i none) ≡ true
-  entry-passes i h = ap (isEntry (entryAt t i)) (read-at t i h) ∙ eqb-self (entryAt t i)
-
-  pub entry-counts : (i : ℕ) → i < size t → 0 < count (isEntry (entryAt t i)) (tree.read t)
-  entry-counts i h = count-at (isEntry (entryAt t i)) (tree.read t) i (omega (arith, read-length t)) (entry-passes i h)
-
-  pub entry-place : (i : ℕ) → i < size t → count (isEntry (entryAt t i)) (tree.read t) ≤ 1 → i ≡ position (isEntry (entryAt t i)) (tree.read t)
-  entry-place i h u = sym (position-once (isEntry (entryAt t i)) (tree.read t) i (omega (arith, read-length t)) (entry-passes i h) u)
-
-  -- the pairs after a place
-  pub drop-next : (i j : ℕ) → j ≡ suc i → j < size t → drop (suc i) (tree.read t) ≡ pairAt t j ∷ drop (suc j) (tree.read t)
-  drop-next i j q h = ap (λ (k : ℕ). drop k (tree.read t)) (sym q) ∙ drop-cons (tree.read t) j none (omega (arith, read-length t)) ∙ ap (λ (p : Pair). p ∷ drop (suc j) (tree.read t)) (read-at t j h)
-
-  pub drop-end : (i : ℕ) → size t ≤ suc i → drop (suc i) (tree.read t) ≡ []
-  drop-end i h = drop-of-length-le (tree.read t) {i = suc i} (omega (arith, read-length t))
-
-  -- the first subject past the pair before a place
   pub from-first : (i : ℕ) → i ≡ 0 → 0 ≡ fromAt t i
   from-first i q = rw (eq-eqb i 0 q) refl
 
   pub from-past : (i x : ℕ) → i ≢ 0 → x ≡ subjectAt t (i - 1) → x + 1 ≡ fromAt t i
   from-past i x q r = rw (ne-eqb i 0 q) (omega arith)
-
-  -- the next entry
-  pub next-none : (i : ℕ) → size t ≤ suc i → opt.none ≡ nextOn (subjectAt t i) (drop (suc i) (tree.read t))
-  next-none i h = sym (ap (nextOn (subjectAt t i)) (drop-end i h))
-
-  module _ (i j : ℕ) (q : j ≡ suc i) (h : j < size t) (x y : ℕ) (a : x ≡ subjectAt t i) (b : y ≡ subjectAt t j) where
-    next-is : nextOn (subjectAt t i) (drop (suc i) (tree.read t)) ≡ cond (ltb x y) opt.none (opt.some (entryAt t j))
-    next-is = ap (nextOn (subjectAt t i)) (drop-next i j q h) ∙ rw (a, b) refl
-
-    pub next-head : x < y → opt.none ≡ nextOn (subjectAt t i) (drop (suc i) (tree.read t))
-    next-head l = sym (next-is ∙ rw (lt-ltb x y l) refl)
-
-    pub next-same : y ≤ x → (e : ℕ) → e ≡ entryAt t j → opt.some e ≡ nextOn (subjectAt t i) (drop (suc i) (tree.read t))
-    next-same l e r = ap opt.some r ∙ sym (next-is ∙ rw (le-ltb x y l) refl)
 
 -- ---- the place of an entry, in the bytes
 
@@ -113,17 +59,8 @@ module _ (t : List ℕ) (e i : ℕ) (q : i ≡ position (isEntry e) (tree.read t
     | diff z b ↦ rw b (read-place-from t e i q h (omega arith))
   ]
 
-  pub place-rest-at : placeOf e (tree.read t) .rest ≡ drop (suc i) (tree.read t)
-  place-rest-at = place-rest e (tree.read t) i (sym q) (omega (arith, read-length t))
-
-  pub place-next : nextOn (placeOf e (tree.read t) .subject) (placeOf e (tree.read t) .rest) ≡ nextOn (subjectAt t i) (drop (suc i) (tree.read t))
-  place-next = rw (read-place-subject t e i q h, place-rest-at) refl
-
-  pub removed-is : count (isEntry e) (tree.read t) ≤ 1 → removedAt i (tree.read t) ≡ without e (tree.read t)
-  removed-is u = ap (λ (k : ℕ). removedAt k (tree.read t)) q ∙ removed-without e (tree.read t) u (omega (arith, read-length t))
-
   gap-is : (marks : List ℕ) → gapOf e (placeOf e (tree.read t)) marks ≡ cond (leb (fromAt t i) (subjectAt t i)) (gapBefore e (subjectAt t i) (drop (suc i) (tree.read t)) marks) Same
-  gap-is marks = place-gap e (placeOf e (tree.read t)) marks (fromAt t i) (subjectAt t i) (drop (suc i) (tree.read t)) place-from-at (read-place-subject t e i q h) place-rest-at
+  gap-is marks = place-gap e (placeOf e (tree.read t)) marks (fromAt t i) (subjectAt t i) (drop (suc i) (tree.read t)) place-from-at (read-place-subject t e i q h) (place-rest-at t e i q h)
 
   module _ (marks : List ℕ) (x from : ℕ) (a : x ≡ subjectAt t i) (b : from ≡ fromAt t i) where
     pub gap-same : x < from → Same ≡ gapOf e (placeOf e (tree.read t)) marks
@@ -222,18 +159,6 @@ front-counts : (e : ℕ) (q : List ℕ) → first q ≡ Some e → 0 < lists.cou
 front-counts e [] h = absurd (let z : _≡_ {A = ℕ} 0 1 = cc in omega arith)
 front-counts e (x ∷ q) h = let r : x ≡ e = cc in rw (← r) (omega (arith, count-first x q))
 
-few-others : (e n : ℕ) (l k : List Pair) → e < n → count (isEntry e) l ≡ 0 → count (isEntry e) k ≡ 0 → ((x : ℕ) → count (isEntry x) l + count (isEntry x) k ≤ 1)
-    → ((x : ℕ) → 0 < count (isEntry x) l + count (isEntry x) k → x < n) → length l + length k < n
-few-others e n l k b u v once inside =
-    let both : (x : ℕ) → count (isEntry x) (l ++ k) ≡ count (isEntry x) l + count (isEntry x) k = λ x. count-append (isEntry x) l k in
-    omega (
-      arith,
-      length-append l k,
-      few-entries n (pair e 0 ∷ (l ++ k))
-          (λ x. elim (compareEq x e) [ same q t ↦ rw t (omega (arith, both x, rw (← q) at u, rw (← q) at v)) | diff d t ↦ rw t (omega (arith, both x, once x)) ])
-          (λ x i. elim (compareEq x e) [ same q t ↦ omega arith | diff d t ↦ inside x (omega (arith, both x, rw t at i)) ]),
-    )
-
 module _ (s : List ℕ) (w : wholeB s ≡ true) where
   -- the active entry at a place
   pub entry-at-place : (i : ℕ) → i < size (activePart s) → i ≡ position (isEntry (entryAt (activePart s) i)) (read s .active)
@@ -243,7 +168,7 @@ module _ (s : List ℕ) (w : wholeB s ≡ true) where
   entry-active i h = true-any (isEntry (entryAt (activePart s) i)) (read s .active) (entry-counts (activePart s) i h)
 
   pub subject-in-range : (i : ℕ) → i < size (activePart s) → subjectAt (activePart s) i ≤ 8191
-  subject-in-range i h = omega (arith, ap (λ (p : Pair). p .subject) (read-at (activePart s) i h), range-at (read s .active) (known s w .conditions .range-a) i .1)
+  subject-in-range i h = omega (arith, ap (λ (p : Pair). p .subject) (read-at (activePart s) i h), range-at 8191 (read s .active) (known s w .conditions .range-a) i .1)
 
   -- an active entry, and an inactive one
   pub active-in-range : (e : ℕ) → hasEntry e (read s .active) ≡ true → e < 128

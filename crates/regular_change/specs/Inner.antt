@@ -1,22 +1,15 @@
 -- What the inner functions answer and store, as the code goes. No contract of a public call cites this.
 use Prim.Native.Nat.{ℕ, suc, _-_, _/_, _%_}
 use mathlib.Core.List.{List, [], _∷_}
-use mathlib.Core.Option.{Option, none, some}
 use mathlib.Core.Bool.{Bool, true, cond}
 use lib.Dec.{eqb}
 use lib.ListN.{getD, set}
 use Rattle.entry_tree.specs.Pairs.{Pair, Place}
 use Rattle.entry_tree.specs.Places.{subjectAt}
-use Rattle.regular.specs.Bytes.{flagOver, walkOver}
+use Rattle.regular.specs.Bytes.{flagOver}
 use Rattle.regular.specs.Steps.{isHead, newMark}
-use Rattle.regular_change.specs.declared.look.Walk.{Walk}
-use Rattle.regular_change.specs.declared.look.Walk.the-variants.{At, Ended}
 use Rattle.regular_change.specs.declared.look.Gap.{Gap}
 use Rattle.regular_change.specs.declared.look.Gap.the-variants.{Same, Withdrawn, Marked, Last}
-
-abbrev pub walkAt : Walk → Option ℕ
-walkAt (At e) = some e
-walkAt Ended = none
 
 -- the first subject past the pair before the place i of a tree
 abbrev pub fromAt : List ℕ → ℕ → ℕ
@@ -42,9 +35,3 @@ withSlots s n = set (set s 1032 (n % 256)) 1033 (n / 256)
 
 abbrev pub withFlag : List ℕ → Bool → List ℕ
 withFlag s f = set s 1034 (flagOver f (getD s 1034 0))
-
-abbrev pub withWalk : List ℕ → Option ℕ → List ℕ
-withWalk s w = set s 1035 (walkOver w (getD s 1035 0))
-
-abbrev pub withWalkPast : List ℕ → ℕ → Option ℕ → List ℕ
-withWalkPast s e w = cond (eqb (getD s 1035 0) e) (withWalk s w) s

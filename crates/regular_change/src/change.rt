@@ -1,13 +1,13 @@
 // The changes: each leaves the bytes of the changed meaning.
 use crate::look::Gap;
-use crate::look::Walk;
 use crate::look::from_at;
-use crate::look::next_on;
 use crate::look::on_active;
 use entry_tree::insert;
 use entry_tree::position;
 use entry_tree::remove;
 use entry_tree::subject_at;
+use entry_tree::walk::next_on;
+use entry_tree::walk::walk_past;
 use multi_cycle_list::inner::inner_move_back;
 use multi_cycle_list::inner::inner_open;
 use multi_cycle_list::inner::inner_remove;
@@ -26,7 +26,7 @@ ghost use Rattle.entry_tree.specs.Places.{size, entryAt};
 ghost use Rattle.regular.specs.Registry.{fresh};
 ghost use Rattle.regular.specs.Steps.{waits, joins, leavesInactive, leaves, gaps, withCleanUp, innerStep};
 ghost use Rattle.regular.specs.Bytes.{activePart, wholeB, read, laid};
-ghost use Rattle.regular_change.specs.Inner.{walkAt, gapOf, more, withSlots, withFlag, withWalk, withWalkPast};
+ghost use Rattle.regular_change.specs.Inner.{gapOf, more, withSlots, withFlag};
 
 fn set_slots(s: &mut [u8], n: usize)
     requires { ⌜ (length (now s) ≡ 1036) × (n < 65536) ⌝ }
@@ -42,20 +42,6 @@ fn set_last_gap(s: &mut [u8])
 {
     if s[1034] == 0 {
         s[1034] = 1;
-    }
-}
-
-pub fn set_walk(s: &mut [u8], w: Walk)
-    requires { ⌜ length (now s) ≡ 1036 ⌝ }
-    ensures { λ _. ⌜ now (s .exit) ≡ withWalk (now (s .entry)) (walkAt w) ⌝ }
-{
-    match w {
-        Walk::At(e) => s[1035] = e,
-        Walk::Ended => {
-            if s[1035] < 128 {
-                s[1035] = 255;
-            }
-        }
     }
 }
 
@@ -115,16 +101,6 @@ fn close_gap(s: &mut [u8], i: usize, entry: u8, gap: Gap)
     }
 }
 
-// A walk that points at the entry goes on to w.
-fn walk_past(s: &mut [u8], entry: u8, w: Walk)
-    requires { ⌜ length (now s) ≡ 1036 ⌝ }
-    ensures { λ _. ⌜ now (s .exit) ≡ withWalkPast (now (s .entry)) «entry» (walkAt w) ⌝ }
-{
-    if s[1035] == entry {
-        set_walk(s, w);
-    }
-}
-
 // The active entry at the place i leaves; n slots are left.
 pub fn leave_active(s: &mut [u8], entry: u8, i: usize, gap: Gap, n: usize)
     requires { ⌜ (wholeB (now s) ≡ true) × (((i ≡ position (isEntry «entry») (read (now s) .active)) × (hasEntry «entry» (read (now s) .active) ≡ true)) × ((gap ≡ gapOf «entry» (placeOf «entry» (read (now s) .active)) (read (now s) .cleanUp)) × ((n ≡ read (now s) .slots + more gap) × (n < 65536)))) ⌝ }
@@ -132,7 +108,7 @@ pub fn leave_active(s: &mut [u8], entry: u8, i: usize, gap: Gap, n: usize)
 {
     let w = next_on(&s[0..385], i);
     close_gap(s, i, entry, gap);
-    walk_past(s, entry, w);
+    walk_past(s, 1035, entry, w);
     set_slots(s, n);
     remove(&mut s[0..385], i);
 }

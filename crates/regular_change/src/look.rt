@@ -1,8 +1,8 @@
 // What is asked of whole bytes.
 use entry_tree::entry_at;
-use entry_tree::first_on;
+use entry_tree::has_entry;
+use entry_tree::has_subject;
 use entry_tree::len;
-use entry_tree::position;
 use entry_tree::subject_at;
 use multi_cycle_list::inner::inner_is_linked;
 ghost use mathlib.Core.Path.{_≡_};
@@ -10,18 +10,10 @@ ghost use mathlib.Core.Bool.{true, false};
 ghost use Prim.Native.Nat.{suc, _-_, _<_, _≤_};
 ghost use lib.ListN.{length, drop};
 ghost use Rattle.entry_tree.specs.Pairs.{hasEntry, hasSubject, placeOf};
-ghost use Rattle.entry_tree.specs.Places as tree;
 ghost use Rattle.entry_tree.specs.Places.{size, entryAt, subjectAt};
 ghost use Rattle.regular.specs.Registry.{queued};
-ghost use Rattle.regular.specs.Steps.{nextOn, isHead};
 ghost use Rattle.regular.specs.Bytes.{activePart, wholeB, read};
-ghost use Rattle.regular_change.specs.Inner.{walkAt, fromAt, gapBefore, gapOf};
-
-// The entry that a walk points at, or none.
-pub enum Walk {
-    At(u8),
-    Ended,
-}
+ghost use Rattle.regular_change.specs.Inner.{fromAt, gapBefore, gapOf};
 
 // What the removal of an active entry makes of the gap that it leaves. A non-head leaves none; of a head a mark, if any, is withdrawn,
 // and then the next is marked, or the last gap is, or neither.
@@ -30,23 +22,6 @@ pub enum Gap {
     Withdrawn,
     Marked(u8),
     Last,
-}
-
-// A tree has the entry; a tree has an entry on the subject.
-fn has_entry(t: &[u8], entry: u8) -> bool
-    requires { ⌜ (length (now t) ≡ 385) × (size (now t) ≤ 128) ⌝ }
-    ensures { λ r. ⌜ r ≡ hasEntry «entry» (tree.read (now (t .entry))) ⌝ }
-{
-    let i = position(t, entry);
-    i < len(t)
-}
-
-fn has_subject(t: &[u8], subject: u16) -> bool
-    requires { ⌜ (length (now t) ≡ 385) × (size (now t) ≤ 128) ⌝ }
-    ensures { λ r. ⌜ r ≡ hasSubject subject (tree.read (now (t .entry))) ⌝ }
-{
-    let i = first_on(t, subject);
-    i < len(t)
 }
 
 pub fn is_active(s: &[u8], entry: u8) -> bool
@@ -101,21 +76,6 @@ pub fn from_at(t: &[u8], i: usize) -> u16
         return 0;
     }
     subject_at(t, i - 1) + 1
-}
-
-// The entry after the place i, if it is no head.
-pub fn next_on(t: &[u8], i: usize) -> Walk
-    requires { ⌜ (length (now t) ≡ 385) × ((size (now t) ≤ 128) × (i < size (now t))) ⌝ }
-    ensures { λ r. ⌜ walkAt r ≡ nextOn (subjectAt (now (t .entry)) i) (drop (suc i) (tree.read (now (t .entry)))) ⌝ }
-{
-    let n = len(t);
-    if n <= i + 1 {
-        return Walk::Ended;
-    }
-    if subject_at(t, i) < subject_at(t, i + 1) {
-        return Walk::Ended;
-    }
-    Walk::At(entry_at(t, i + 1))
 }
 
 // The gap that the head at the place i leaves before the next.

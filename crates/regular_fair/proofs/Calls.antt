@@ -12,14 +12,14 @@ use Rattle.state.proofs.Tests.{by-cond, not-both}
 use Rattle.multi_cycle_list.specs.Lists as lists
 use Rattle.entry_tree.specs.Pairs.{pair, count, isEntry, onSubject, hasEntry, hasSubject, without, placeOf}
 use Rattle.entry_tree.proofs.Changes.{inserted-count, without-none}
+use Rattle.entry_tree.specs.Walks.{firstOn, nextOn}
+use Rattle.entry_tree.proofs.Walking.{find-rest, first-in, next-in}
 use Rattle.regular.specs.Registry.{Registry}
-use Rattle.regular.specs.Steps.{Call, Register, Unregister, HubPushStart, PollPop, HubPushNext, Gaps, gaps, waits, joins, register, leaves, leavesInactive, unregister, withWalk, firstOn, nextOn, hubPushStart, hubPushNext, pushNext}
+use Rattle.regular.specs.Steps.{Call, Register, Unregister, HubPushStart, PollPop, HubPushNext, Gaps, gaps, waits, joins, register, leaves, leavesInactive, unregister, withWalk, hubPushStart, hubPushNext, pushNext}
 use Rattle.regular.specs.declared.Answer.{Answer}
 use Rattle.regular.specs.declared.Answer.the-variants.{Refused, Accepted}
 use Rattle.regular_fair.specs.Moves.{Registered, moved, into, covers}
-use Rattle.regular_fair.proofs.Count.{any-true, any-false, count-append, same-without}
-use Rattle.regular_fair.proofs.Good.{find-rest}
-use Rattle.regular_fair.proofs.Places.{next-in, first-in}
+use Rattle.entry_tree.proofs.Count.{any-true, any-false, count-append, same-without}
 use Rattle.regular_fair.proofs.Sound.{waits-sound, joins-sound, inactive-sound, leaves-sound, walk-sound}
 use Rattle.regular_fair.proofs.Inv.{Inv, entryOf, entries-back, entries-without}
 

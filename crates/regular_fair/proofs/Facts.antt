@@ -12,9 +12,11 @@ use Rattle.state.proofs.Tests.{and-l, and-r, not-both}
 use Rattle.multi_cycle_list.specs.Lists as lists
 use Rattle.entry_tree.specs.Pairs.{Pair, count, isEntry, onSubject, past, inOrder, inRange}
 use Rattle.entry_tree.proofs.Changes.{order-parts, range-parts, range-cons}
-use Rattle.regular.specs.Registry.{Registry, queued, marksB, walkB, wholeB}
+use Rattle.entry_tree.specs.Walks.{walkB}
+use Rattle.regular.specs.Registry.{Registry, queued, marksB, wholeB}
 use Rattle.regular.proofs.Testing.{conditions, of-conditions}
-use Rattle.regular_fair.proofs.Count.{same, diff, below, above, compareEq, compareLe, any-true, true-any, count-self, count-subject, count-append, few-entries}
+use Rattle.entry_tree.proofs.Passing.{range-inside}
+use Rattle.entry_tree.proofs.Count.{same, diff, below, above, compareEq, compareLe, any-true, true-any, count-self, count-subject, count-append, few-entries}
 
 -- Pairs in subject order, each marked one's subject above `from`, the first subject past the pair before: `marks` says how often an entry is marked.
 pub data Ordered (marks : ℕ → ℕ) : ℕ → List Pair → Type 0 where
@@ -44,22 +46,16 @@ pub record Inside (m : Registry) : Type 0 where
 
 -- ---- ranges
 
-range-entry : (l : List Pair) → inRange l ≡ true → (e : ℕ) → 0 < count (isEntry e) l → e ≤ 127
-range-entry [] h e k = absurd (omega (arith, k))
-range-entry (p ∷ l) h e k =
-    let r = range-parts p l h in
-    elim (compareEq e (p .entry)) [ same q t ↦ omega (arith, r) | diff n t ↦ range-entry l (r .2) e (omega (arith, rw t at k)) ]
-
-range-subject : (l : List Pair) → inRange l ≡ true → (x : ℕ) → 0 < count (onSubject x) l → x ≤ 8191
+range-subject : (l : List Pair) → inRange 8191 l ≡ true → (x : ℕ) → 0 < count (onSubject x) l → x ≤ 8191
 range-subject [] h x k = absurd (omega (arith, k))
 range-subject (p ∷ l) h x k =
-    let r = range-parts p l h in
+    let r = range-parts 8191 p l h in
     elim (compareEq x (p .subject)) [ same q t ↦ omega (arith, r) | diff n t ↦ range-subject l (r .2) x (omega (arith, rw t at k)) ]
 
-range-of : (l : List Pair) → ((e : ℕ) → 0 < count (isEntry e) l → e ≤ 127) → ((x : ℕ) → 0 < count (onSubject x) l → x ≤ 8191) → inRange l ≡ true
+range-of : (l : List Pair) → ((e : ℕ) → 0 < count (isEntry e) l → e ≤ 127) → ((x : ℕ) → 0 < count (onSubject x) l → x ≤ 8191) → inRange 8191 l ≡ true
 range-of [] f g = refl
 range-of (p ∷ l) f g =
-    range-cons p l (f (p .entry) (count-self p l)) (g (p .subject) (count-subject p l)) (range-of l (λ e k. f e (omega arith)) (λ x k. g x (omega arith)))
+    range-cons 8191 p l (f (p .entry) (count-self p l)) (g (p .subject) (count-subject p l)) (range-of l (λ e k. f e (omega arith)) (λ x k. g x (omega arith)))
 
 -- ---- order and marks
 
@@ -118,8 +114,8 @@ of-gap true x h = le-leb x 8191 (h refl)
 of-gap false x h = refl
 
 module _ (m : Registry) where
-  none-past : (l : List Pair) → inRange l ≡ true → (e : ℕ) → 127 < e → count (isEntry e) l ≡ 0
-  none-past l r e h = elim (compareLe 1 (count (isEntry e) l)) [ below i t ↦ absurd (omega (arith, range-entry l r e i)) | above i t ↦ omega arith ]
+  none-past : (l : List Pair) → inRange 8191 l ≡ true → (e : ℕ) → 127 < e → count (isEntry e) l ≡ 0
+  none-past l r e h = elim (compareLe 1 (count (isEntry e) l)) [ below i t ↦ absurd (omega (arith, range-inside 8191 l r e i)) | above i t ↦ omega arith ]
 
   pub facts-of : wholeB m ≡ true → Inside m → Facts m
   facts-of h k =

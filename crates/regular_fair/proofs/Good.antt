@@ -10,10 +10,11 @@ use borrow.Author.Tests.{le-leb}
 use Rattle.multi_cycle_list.specs.Lists as lists
 use Rattle.entry_tree.specs.Pairs.{Pair, pair, Place, bit, count, isEntry, onSubject, without, inserted, find, past}
 use Rattle.entry_tree.proofs.Changes.{without-none}
+use Rattle.entry_tree.proofs.Walking.{find-rest}
 use Rattle.regular.specs.Steps.{newMark, headGaps, isHead, gaps}
 use Rattle.regular.specs.declared.Answer.the-variants.{AddSubject, RemoveSubjectRange}
 use Rattle.regular_fair.specs.Moves.{into}
-use Rattle.regular_fair.proofs.Count.{same, diff, below, above, compareEq, compareLe, eqb-self, count-self, count-subject, first-only, count-off, not-there}
+use Rattle.entry_tree.proofs.Count.{same, diff, below, above, compareEq, compareLe, eqb-self, count-self, count-subject, first-only, count-off, not-there}
 use Rattle.multi_cycle_list.proofs.Lists.{count-append, count-kept}
 use Rattle.regular_fair.proofs.Queue.{count-maybe, count-maybe-other}
 use Rattle.regular_fair.proofs.Facts.{Ordered, onil, ocons}
@@ -199,10 +200,6 @@ without-at e ms {from = from} {p = p} h (gcons {p = n} {l = r} k g) q z u = elim
       })
       (carry g (λ x y w. w) (λ x y w. w) (λ y. y) (λ x a y. omega (arith, others x a)) (λ x a y. omega (arith, others x a))))
 ]
-
-pub find-rest : (x e from : ℕ) (l : List Pair) → count (isEntry x) (find e from l .rest) ≤ count (isEntry x) l
-find-rest x e from [] = omega arith
-find-rest x e from (p ∷ l) = elim (compareEq e (p .entry)) [ same q t ↦ rw t (omega arith) | diff n t ↦ rw t (omega (arith, find-rest x e (suc (p .subject)) l)) ]
 
 pub without-good : (e : ℕ) (ms : List ℕ) {f : Bool} {F : ℕ → Bool} {from : ℕ} {l : List Pair} → Good (λ x. lists.count x ms) f F from l
     → ((x : ℕ) → count (isEntry x) l ≤ 1) → 0 < count (isEntry e) l

@@ -13,7 +13,7 @@ use Rattle.entry_tree.proofs.Changes.{without-count, without-count-other, witho
 use Rattle.regular.specs.Registry.{Registry, fresh}
 use Rattle.regular_fair.specs.Moves as moves
 use Rattle.regular_fair.specs.Moves.{Registered}
-use Rattle.regular_fair.proofs.Count.{same, diff, compareEq, count-self}
+use Rattle.entry_tree.proofs.Count.{same, diff, compareEq, count-self}
 use Rattle.regular_fair.proofs.Queue.{count-first, count-le, count-nil}
 use Rattle.regular_fair.proofs.Facts.{Facts}
 use Rattle.regular_fair.proofs.Sound.{Sound, exactly, exact-sound, fresh-sound}

@@ -1,4 +1,3 @@
-pub mod Count
 pub mod Facts
 pub mod Queue
 pub mod Good

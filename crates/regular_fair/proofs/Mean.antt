@@ -20,9 +20,12 @@ use Rattle.multi_cycle_list.proofs.Laid as listsLaid
 use Rattle.multi_cycle_list.proofs.Meaning.{list-at}
 use Rattle.entry_tree.specs.Places as tree
 use Rattle.entry_tree.proofs.Laid as treeLaid
+use Rattle.entry_tree.specs.Walks.{walkOf, walkOver}
+use Rattle.state.proofs.Bytes.{bytes-part, bytes-append}
+use Rattle.entry_tree.proofs.Walking.{walk-back, walk-byte}
 use Rattle.regular.specs.Registry as registry
 use Rattle.regular.specs.Registry.{Registry, fresh}
-use Rattle.regular.specs.Bytes.{activePart, inactivePart, queuePart, walkOf, read, wholeB, flagOver, walkOver, queueOf, laid}
+use Rattle.regular.specs.Bytes.{activePart, inactivePart, queuePart, read, wholeB, flagOver, queueOf, laid}
 use Rattle.regular.specs.Steps.{Call, step}
 use Rattle.regular.specs.Calls.{opening, on}
 use Rattle.regular_fair.specs.Means.{Fair, Sized, RegularMeans}
@@ -35,14 +38,9 @@ use Rattle.regular_fair.proofs.Facts.{Facts, at-most}
 use Rattle.regular_fair.proofs.Sound.{fresh-facts}
 use Rattle.regular_fair.proofs.Fair.{fair-whole, whole-fair, step-fair}
 use Rattle.regular_fair.proofs.Reading.{parts, read-whole, queue-fair}
-use Rattle.regular_fair.proofs.Round.{tailLaid, flag-back, walk-back, bytes-part, laid-joined, laid-read}
+use Rattle.regular_fair.proofs.Round.{tailLaid, flag-back, laid-joined, laid-read}
 
 -- ---- bytes
-
-bytes-append : (l k : List ℕ) → Bytes l → Bytes k → Bytes (l ++ k)
-bytes-append [] k y z i = z i
-bytes-append (x ∷ l) k y z zero = y 0
-bytes-append (x ∷ l) k y z (suc i) = bytes-append l k (λ j. y (suc j)) z i
 
 bytes-four : (x0 x1 x2 x3 : ℕ) → x0 < 256 → x1 < 256 → x2 < 256 → x3 < 256 → Bytes (x0 ∷ (x1 ∷ (x2 ∷ (x3 ∷ []))))
 bytes-four x0 x1 x2 x3 h0 h1 h2 h3 zero = h0
@@ -55,10 +53,6 @@ flag-byte : (f : Bool) (v : ℕ) → v < 256 → flagOver f v < 256
 flag-byte false v h = omega arith
 flag-byte true zero h = omega arith
 flag-byte true (suc v) h = rw (ne-eqb (suc v) 0 (λ q. omega arith)) h
-
-walk-byte : (w : Option ℕ) (v : ℕ) → ((e : ℕ) → w ≡ some e → e < 128) → v < 256 → walkOver w v < 256
-walk-byte none v g h = elim (decLt v 128) [ yes l ↦ rw (lt-ltb v 128 l) (omega arith) | no l ↦ rw (le-ltb v 128 (omega arith)) h ]
-walk-byte (some e) v g h = omega (arith, g e refl)
 
 -- ---- what is laid reads back
 
@@ -134,8 +128,8 @@ module _ (m : Registry) (b : List ℕ) (y : Bytes b) (f : Fair m) (l : length b 
       let s = split b l in
       let c = conditions m (f .whole) in
       subst Bytes (sym (j .is))
-      (bytes-append A (I ++ (Q ++ T)) (treeLaid.bytes-laid (activePart b) (s .long-a) (m .active) (few .0) (bytes-part 0 385 b y) (c .range-a))
-      (bytes-append I (Q ++ T) (treeLaid.bytes-laid (inactivePart b) (s .long-i) (m .inactive) (few .1) (bytes-part 385 385 b y) (c .range-i))
+      (bytes-append A (I ++ (Q ++ T)) (treeLaid.bytes-laid (activePart b) (s .long-a) (m .active) (few .0) 8191 (bytes-part 0 385 b y) (omega arith) (c .range-a))
+      (bytes-append I (Q ++ T) (treeLaid.bytes-laid (inactivePart b) (s .long-i) (m .inactive) (few .1) 8191 (bytes-part 385 385 b y) (omega arith) (c .range-i))
       (bytes-append Q T (listsLaid.whole-bytes Q (listsLaid.laid-whole (queueOf m) (queue-fair m w)))
       (bytes-four (m .slots % 256) (m .slots / 256) (flagOver (m .lastGap) (getD b 1034 0)) (walkOver (m .walk) (getD b 1035 0))
       (omega arith) (omega (arith, f .room)) (flag-byte (m .lastGap) (getD b 1034 0) (y 1034)) (walk-byte (m .walk) (getD b 1035 0) walks (y 1035))))))

@@ -9,22 +9,14 @@ use lib.Dec.{eqb, ltb}
 use Rattle.state.proofs.Tests.{by-cond}
 use Rattle.multi_cycle_list.specs.Lists as lists
 use Rattle.entry_tree.specs.Pairs.{Pair, pair, count, isEntry, onSubject, without, inserted, find, placeOf, past}
+use Rattle.entry_tree.specs.Walks.{firstOn, nextOn}
 use Rattle.regular.specs.Registry.{Registry}
-use Rattle.regular.specs.Steps.{nextOn, firstOn}
-use Rattle.regular_fair.proofs.Count.{same, diff, below, above, compareEq, compareLe, eqb-self, both-le, count-self, count-subject, count-off}
+use Rattle.entry_tree.proofs.Count.{same, diff, below, above, compareEq, compareLe, eqb-self, both-le, count-self, count-subject, count-off}
 use Rattle.regular_fair.proofs.Facts.{Facts, Ordered, onil, ocons}
 use Rattle.regular_fair.proofs.Queue.{count-first}
 use Rattle.regular_fair.proofs.Good.{Good, gnil, gcons, find-from}
 
 -- ---- a place
-
-pub find-after : (e from : ℕ) (l : List Pair) → count (isEntry e) l ≤ 1 → count (isEntry e) (find e from l .rest) ≡ 0
-find-after e from [] u = refl
-find-after e from (p ∷ l) u =
-    elim (compareEq e (p .entry)) [
-      | same q t ↦ rw t (omega (arith, rw t at u))
-      | diff n t ↦ rw t (find-after e (suc (p .subject)) l (omega (arith, rw t at u)))
-    ]
 
 -- its subject is one of the list
 pub find-on : (e from : ℕ) (l : List Pair) → 0 < count (isEntry e) l → 0 < count (onSubject (find e from l .subject)) l
@@ -110,23 +102,3 @@ module _ (m : Registry) (f : Facts m) (e : ℕ) (q : List ℕ) where
 
   pub next-range : m .activation ≡ e ∷ q → placeOf e (m .inactive) .subject ≤ 8191
   next-range a = f .inactive-subjects (placeOf e (m .inactive) .subject) (next-on a)
-
--- ---- the walk
-
-pub some-is : (a b : ℕ) → _≡_ {A = Option ℕ} (some a) (some b) → a ≡ b
-some-is a b q = cc
-
-pub none-some : (a : ℕ) → _≡_ {A = Option ℕ} none (some a) → ⊥
-none-some a q = let z : _≡_ {A = ℕ} 0 1 = cc in omega arith
-
-pub next-in : (s x : ℕ) (r : List Pair) → nextOn s r ≡ some x → 0 < count (isEntry x) r
-next-in s x [] = λ q. absurd (none-some x q)
-next-in s x (p ∷ r) =
-    by-cond (λ (o : Option ℕ). o ≡ some x → 0 < count (isEntry x) (p ∷ r)) (ltb s (p .subject)) (λ t q. absurd (none-some x q))
-    (λ t q. rw (← (some-is (p .entry) x q)) (count-self p r))
-
-pub first-in : (s x : ℕ) (l : List Pair) → firstOn s l ≡ some x → 0 < count (isEntry x) l
-first-in s x [] = λ q. absurd (none-some x q)
-first-in s x (p ∷ l) =
-    by-cond (λ (o : Option ℕ). o ≡ some x → 0 < count (isEntry x) (p ∷ l)) (eqb s (p .subject)) (λ t q. rw (← (some-is (p .entry) x q)) (count-self p l))
-    (λ t q. omega (arith, first-in s x l q))

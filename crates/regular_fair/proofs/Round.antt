@@ -19,8 +19,11 @@ use Rattle.multi_cycle_list.specs.Laid as lists
 use Rattle.multi_cycle_list.proofs.Laid as listsLaid
 use Rattle.entry_tree.specs.Places as tree
 use Rattle.entry_tree.proofs.Laid as treeLaid
+use Rattle.entry_tree.specs.Walks.{walkOf, walkOver}
+use Rattle.state.proofs.Bytes.{bytes-part}
+use Rattle.entry_tree.proofs.Walking.{walk-same}
 use Rattle.regular.specs.Registry.{Registry}
-use Rattle.regular.specs.Bytes.{activePart, inactivePart, queuePart, walkOf, read, wholeB, flagOver, walkOver, queueOf, laid}
+use Rattle.regular.specs.Bytes.{activePart, inactivePart, queuePart, read, wholeB, flagOver, queueOf, laid}
 use Rattle.regular.proofs.Parts.{join, Joined, split, active-is, inactive-is, tail-at, long}
 use Rattle.regular.proofs.Grounds.{sizes-of}
 use Rattle.regular_fair.proofs.Reading.{parts}
@@ -53,7 +56,7 @@ split-long b l =
     let s = split b l in
     subst (λ (t : List ℕ). Joined b (activePart b) (inactivePart b) (queuePart b) t) (tail-is b (s .long-t)) s
 
--- ---- the flag's and the walk's byte
+-- ---- the flag's byte
 
 pub flag-back : (f : Bool) (v : ℕ) → not (eqb (flagOver f v) 0) ≡ f
 flag-back false v = refl
@@ -63,13 +66,6 @@ flag-back true (suc v) = let n = ne-eqb (suc v) 0 (λ q. omega arith) in rw (n, 
 flag-own : (v : ℕ) → v ≡ flagOver (not (eqb v 0)) v
 flag-own zero = refl
 flag-own (suc v) = let n = ne-eqb (suc v) 0 (λ q. omega arith) in rw (n, n)
-
-pub walk-back : (w : Option ℕ) (v : ℕ) → ((e : ℕ) → w ≡ some e → e < 128) → walkOf (walkOver w v) ≡ w
-walk-back none v h = elim (decLt v 128) [ yes l ↦ rw (lt-ltb v 128 l) | no l ↦ rw (le-ltb v 128 (omega arith), le-ltb v 128 (omega arith)) ]
-walk-back (some e) v h = rw (lt-ltb e 128 (h e refl))
-
-walk-own : (v : ℕ) → v ≡ walkOver (walkOf v) v
-walk-own v = elim (decLt v 128) [ yes l ↦ rw (lt-ltb v 128 l) | no l ↦ rw (le-ltb v 128 (omega arith), le-ltb v 128 (omega arith)) ]
 
 -- a byte laid twice
 flag-again : (f g : Bool) (v : ℕ) → (g ≡ false) ⊎ (g ≡ f) → flagOver g (flagOver f v) ≡ flagOver g v
@@ -134,15 +130,6 @@ queue-same q c e = ap (λ (n : ℕ). listsLaid.lists (nodes.entries q) (each n (
 pub queue-read : (b : List ℕ) → wholeB b ≡ true → nodes.read (queuePart b) ≡ queueOf (read b)
 queue-read b h = let z = sizes-of b (parts b h .sizes) in queue-same (queuePart b) (z .classes) (z .entries)
 
-bytes-take : (n : ℕ) (l : List ℕ) → Bytes l → Bytes (take n l)
-bytes-take zero l y i = omega arith
-bytes-take (suc n) [] y i = omega arith
-bytes-take (suc n) (x ∷ l) y zero = y 0
-bytes-take (suc n) (x ∷ l) y (suc i) = bytes-take n l (λ j. y (suc j)) i
-
-pub bytes-part : (k n : ℕ) (b : List ℕ) → Bytes b → Bytes (take n (drop k b))
-bytes-part k n b y = bytes-take n (drop k b) (λ i. rw (getD-drop k b i 0) (y (k + i)))
-
 module _ (b : List ℕ) (y : Bytes b) (h : wholeB b ≡ true) where
   pub split-whole : Joined b (activePart b) (inactivePart b) (queuePart b) (getD b 1032 0 ∷ (getD b 1033 0 ∷ (getD b 1034 0 ∷ (getD b 1035 0 ∷ []))))
   split-whole = split-long b (parts b h .bytes)
@@ -167,7 +154,7 @@ module _ (b : List ℕ) (y : Bytes b) (h : wholeB b ≡ true) where
   flag-self = flag-own (getD b 1034 0)
 
   pub walk-self : getD b 1035 0 ≡ walkOver ((read b) .walk) (getD b 1035 0)
-  walk-self = walk-own (getD b 1035 0)
+  walk-self = walk-same (getD b 1035 0)
 
   pub laid-read : laid (read b) b ≡ b
   laid-read = sym (laid-from (read b) b split-whole active-self inactive-self queue-self low-self high-self flag-self walk-self)

@@ -12,15 +12,17 @@ use Rattle.multi_cycle_list.specs.Lists as lists
 use Rattle.multi_cycle_list.proofs.Lists.{count-other, count-append, count-gone, count-kept}
 use Rattle.entry_tree.specs.Pairs.{Pair, pair, Place, bit, count, any, isEntry, onSubject, without, inserted, placeOf, past}
 use Rattle.entry_tree.proofs.Changes.{inserted-count, without-count, without-count-other, without-count-same}
+use Rattle.entry_tree.specs.Walks.{movedPast}
+use Rattle.entry_tree.proofs.Walking.{find-after, find-rest, next-in, none-some, past-in, some-is}
 use Rattle.regular.specs.Registry.{Registry, fresh}
-use Rattle.regular.specs.Steps.{newMark, headGaps, isHead, gaps, walkPast, waits, joins, leaves, leavesInactive, withCleanUp, becomesActive, withWalk}
+use Rattle.regular.specs.Steps.{newMark, headGaps, isHead, gaps, goesOn, waits, joins, leaves, leavesInactive, withCleanUp, becomesActive, withWalk}
 use Rattle.regular.specs.declared.Answer.the-variants.{AddSubject, RemoveSubjectRange}
 use Rattle.regular_fair.specs.Moves.{into}
-use Rattle.regular_fair.proofs.Count.{same, diff, below, above, compareEq, compareLe, T-true, any-true, true-any, count-self, not-there}
+use Rattle.entry_tree.proofs.Count.{same, diff, below, above, compareEq, compareLe, T-true, any-true, true-any, count-self, not-there}
 use Rattle.regular_fair.proofs.Queue.{count-first, count-le, count-back, count-joined, count-maybe, count-maybe-other, count-nil}
 use Rattle.regular_fair.proofs.Facts.{Facts, onil}
-use Rattle.regular_fair.proofs.Good.{Good, gnil, mark, into-sub, front-good, past-clear, last-good, find-rest, without-good, inserted-same, inserted-new, added-out, held-all, order-of, exact-good}
-use Rattle.regular_fair.proofs.Places.{find-after, find-on, find-low, last-head, inserted-order, without-order, past-le, some-is, none-some, next-in}
+use Rattle.regular_fair.proofs.Good.{Good, gnil, mark, into-sub, front-good, past-clear, last-good, without-good, inserted-same, inserted-new, added-out, held-all, order-of, exact-good}
+use Rattle.regular_fair.proofs.Places.{find-on, find-low, last-head, inserted-order, without-order, past-le}
 
 pub record Sound (m : Registry) (F : ℕ → Bool) : Type 0 where
   pub facts : Facts m
@@ -140,18 +142,10 @@ flag-after e d ms f = elim (compareLe (d .from) (d .subject)) [ below i t ↦ rw
     go (q ∷ l) i y = inl y
 
 module _ (m : Registry) (F : ℕ → Bool) (s : Sound m F) (e : ℕ) (k : 0 < count (isEntry e) (m .active)) where
-  walk-out : (y : ℕ) (o : Option ℕ) → m .walk ≡ o → walkPast e (placeOf e (m .active)) o ≡ some y → 0 < count (isEntry y) (without e (m .active))
-  walk-out y none q = λ h. absurd (none-some y h)
-  walk-out y (some v) q =
-      elim (compareEq v e) [
-        | same r t ↦ rw t (λ h.
-            let j = next-in (placeOf e (m .active) .subject) y (placeOf e (m .active) .rest) h in
-            let ne = not-there e y (placeOf e (m .active) .rest) (find-after e 0 (m .active) (omega (arith, s .facts .once e))) j in
-            rw (without-count-other e y ne (m .active)) (omega (arith, find-rest y e 0 (m .active))))
-        | diff n t ↦ rw t (λ h.
-            let r = some-is v y h in
-            rw (without-count-other e y (λ z. n (r ∙ z)) (m .active)) (s .facts .walks y (q ∙ h)))
-      ]
+  walk-out : (y : ℕ) → movedPast e (goesOn (placeOf e (m .active))) (m .walk) ≡ some y → 0 < count (isEntry y) (without e (m .active))
+  walk-out =
+      past-in e (goesOn (placeOf e (m .active))) (m .active) (omega (arith, s .facts .once e))
+      (λ y. next-in (placeOf e (m .active) .subject) y (placeOf e (m .active) .rest)) (m .walk) (s .facts .walks)
 
   edge-out : gaps e (placeOf e (m .active)) (m .cleanUp) (m .lastGap) .lastGap ≡ true → count (onSubject 8191) (without e (m .active)) ≡ 0
   edge-out t =
@@ -178,7 +172,7 @@ module _ (m : Registry) (F : ℕ → Bool) (s : Sound m F) (e : ℕ) (k : 0 < co
           inactive-order = s .facts .inactive-order;
           active-order = order-of g;
           last-gap = λ h. past-le 0 8191 (without e (m .active)) (omega arith) top (edge-out h);
-          walks = λ y h. walk-out y (m .walk) refl h;
+          walks = walk-out;
         };
         top = s .top;
         good = g;

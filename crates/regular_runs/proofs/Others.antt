@@ -1,4 +1,4 @@
--- Calls of the other kinds leave the bytes of a regular registry: neither a list queue nor a key queue has their length.
+-- Calls of the other kinds leave the bytes of a regular registry: none of them has their length.
 use Prim.Native.Nat.{ℕ}
 use mathlib.Core.Path.{_≡_, refl, sym, subst, _∙_}
 use mathlib.Core.Bool.{Bool, true, false, _&&_}
@@ -7,7 +7,7 @@ use native.Mathlib.Omega.{arith}
 use lib.Dec.{eqb}
 use lib.ListN.{length}
 use borrow.Author.Tests.{eqb-true}
-use Rattle.state.specs.Lengths.{Regular, Lists, Keys, Has, regular, lists, keys, listsAllowed, listsLength, keysAllowed, keysLength, regularLength}
+use Rattle.state.specs.Lengths.{Regular, Lists, Keys, Has, regular, lists, keys, listsAllowed, listsLength, keysAllowed, keysLength, regularLength, loopBackLength, requestsLength}
 use Rattle.state.specs.Result.{Result}
 use Rattle.state.proofs.Tests.{by-cond, false-of, and-l, and-r}
 use Rattle.state.proofs.Calls.{not-whole}
@@ -23,7 +23,20 @@ use Rattle.index_entries.specs.Laid as laid
 use Rattle.index_queue.specs.Calls as iq
 use Rattle.index_queue.specs.declared.Answer as key
 use Rattle.index_queue.specs.declared.Answer.the-variants as key-says
-use Rattle.gomxeli.specs.Calls.{Call, does, McqFront, McqBack, McqIsEmpty, McqIsFront, McqIsBack, McqRemove, McqOpen, McqMoveFront, McqMoveBack, IqFront, IqBack, IqContains, IqGet, IqRemove, IqEnqueueFront, IqEnqueueBack, IqDequeue, IqOpen, IqGetMut, IqInsert, RegOpen, RegUnregister, RegHubPushStart, RegRegister, RegPollPop, RegHubPushNext}
+use Rattle.entry_tree.specs.Places as tree
+use Rattle.loop_back.specs.Registry as loopBack
+use Rattle.loop_back.specs.Bytes as lbBytes
+use Rattle.loop_back.specs.Steps as lbSteps
+use Rattle.loop_back.specs.Calls as lb
+use Rattle.loop_back.specs.declared.Answer as loop-back
+use Rattle.loop_back.specs.declared.Answer.the-variants as loop-back-says
+use Rattle.rx_req.specs.Registry as requests
+use Rattle.rx_req.specs.Bytes as reqBytes
+use Rattle.rx_req.specs.Steps as reqSteps
+use Rattle.rx_req.specs.Calls as req
+use Rattle.rx_req.specs.declared.Answer as request
+use Rattle.rx_req.specs.declared.Answer.the-variants as request-says
+use Rattle.gomxeli.specs.Calls.{Call, does, McqFront, McqBack, McqIsEmpty, McqIsFront, McqIsBack, McqRemove, McqOpen, McqMoveFront, McqMoveBack, IqFront, IqBack, IqContains, IqGet, IqRemove, IqEnqueueFront, IqEnqueueBack, IqDequeue, IqOpen, IqGetMut, IqInsert, RegOpen, RegUnregister, RegHubPushStart, RegRegister, RegPollPop, RegHubPushNext, LbOpen, LbHubPushNext, LbUnregister, LbHubPushStart, LbRegister, ReqOpen, ReqUnregister, ReqRegister, ReqPollPush}
 use Rattle.regular_runs.specs.Runs.{part, other}
 
 lists-no : (c e : ℕ) → listsAllowed c e ≡ true → regularLength ≡ listsLength c e → ⊥
@@ -43,6 +56,9 @@ not-sized : (allowed : Bool) (n m : ℕ) (rest : Bool) → (allowed ≡ true →
 not-sized allowed n m rest h = false-of ((allowed && eqb n m) && rest) (λ t.
     let s : (allowed && eqb n m) ≡ true = and-l (allowed && eqb n m) rest t in
     h (and-l allowed (eqb n m) s) (eqb-true n m (and-r allowed (eqb n m) s)))
+
+not-long : (n m : ℕ) (rest : Bool) → (n ≡ m → ⊥) → (eqb n m && rest) ≡ false
+not-long n m rest h = false-of (eqb n m && rest) (λ t. h (eqb-true n m (and-l (eqb n m) rest t)))
 
 module _ (b : List ℕ) (l : length b ≡ regularLength) where
   not-lists : nodes.wholeB b ≡ false
@@ -78,6 +94,29 @@ module _ (b : List ℕ) (l : length b ≡ regularLength) where
     where
       K : Result key.Answer keyed.Keys → Type 0
       K r = iq.openedBytes b r ≡ b
+
+  -- the registries of one length
+  not-loop-back : lbBytes.wholeB b ≡ false
+  unfolding lbBytes.wholeB
+  not-loop-back = not-long (length b) loopBackLength _ (λ q. omega (arith, l, q))
+
+  not-requests : reqBytes.wholeB b ≡ false
+  unfolding reqBytes.wholeB
+  not-requests = not-long (length b) requestsLength _ (λ q. omega (arith, l, q))
+
+  loop-back-call : (f : loopBack.Registry → Result loop-back.Answer loopBack.Registry) → lb.bytes b (lb.on f b) ≡ b
+  loop-back-call f = sym (not-whole lbBytes.wholeB lbBytes.read lbBytes.laid (loop-back-says.Refused 1) f b not-loop-back .1)
+
+  request-call : (f : requests.Registry → Result request.Answer requests.Registry) → req.bytes b (req.on f b) ≡ b
+  request-call f = sym (not-whole reqBytes.wholeB tree.read tree.laid (request-says.Refused 1) f b not-requests .1)
+
+  loop-back-open : lb.openedBytes b (lb.opening (length b)) ≡ b
+  unfolding lb.opening
+  loop-back-open = by-cond (λ (r : Result loop-back.Answer loopBack.Registry). lb.openedBytes b r ≡ b) (eqb (length b) loopBackLength) (λ q. absurd (omega (arith, l, eqb-true (length b) loopBackLength q))) (λ q. refl)
+
+  request-open : req.openedBytes b (req.opening (length b)) ≡ b
+  unfolding req.opening
+  request-open = by-cond (λ (r : Result request.Answer requests.Registry). req.openedBytes b r ≡ b) (eqb (length b) requestsLength) (λ q. absurd (omega (arith, l, eqb-true (length b) requestsLength q))) (λ q. refl)
 
 -- a call on the bytes b: one that leaves them and is nothing to the registry, or one of the registry's own
 pub data On (b : List ℕ) : Call → Type 0 where
@@ -116,3 +155,12 @@ on (RegHubPushStart x) b l = start x
 on (RegRegister e x) b l = register e x
 on RegPollPop b l = poll
 on RegHubPushNext b l = next
+on LbOpen b l = leaves LbOpen refl (loop-back-open b l)
+on LbHubPushNext b l = leaves LbHubPushNext refl (loop-back-call b l lbSteps.hubPushNext)
+on (LbUnregister e) b l = leaves (LbUnregister e) refl (loop-back-call b l (lbSteps.unregister e))
+on (LbHubPushStart x) b l = leaves (LbHubPushStart x) refl (loop-back-call b l (lbSteps.hubPushStart x))
+on (LbRegister e x) b l = leaves (LbRegister e x) refl (loop-back-call b l (lbSteps.register e x))
+on ReqOpen b l = leaves ReqOpen refl (request-open b l)
+on (ReqUnregister e) b l = leaves (ReqUnregister e) refl (request-call b l (reqSteps.unregister e))
+on (ReqRegister e x) b l = leaves (ReqRegister e x) refl (request-call b l (reqSteps.register e x))
+on (ReqPollPush x f) b l = leaves (ReqPollPush x f) refl refl

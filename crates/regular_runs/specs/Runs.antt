@@ -9,7 +9,7 @@ use Rattle.state.specs.Lengths.{regularLength, imageLength}
 use Rattle.entry_tree.specs.Pairs.{pair, hasSubject}
 use Rattle.regular_fair.specs.Moves.{Registered, lists, joined, taken, activated}
 use Rattle.filter_image.specs.Image as image
-use Rattle.gomxeli.specs.Calls.{Call, does, McqFront, McqBack, McqIsEmpty, McqIsFront, McqIsBack, McqRemove, McqOpen, McqMoveFront, McqMoveBack, IqFront, IqBack, IqContains, IqGet, IqRemove, IqEnqueueFront, IqEnqueueBack, IqDequeue, IqOpen, IqGetMut, IqInsert, RegOpen, RegUnregister, RegHubPushStart, RegRegister, RegPollPop, RegHubPushNext}
+use Rattle.gomxeli.specs.Calls.{Call, does, McqFront, McqBack, McqIsEmpty, McqIsFront, McqIsBack, McqRemove, McqOpen, McqMoveFront, McqMoveBack, IqFront, IqBack, IqContains, IqGet, IqRemove, IqEnqueueFront, IqEnqueueBack, IqDequeue, IqOpen, IqGetMut, IqInsert, RegOpen, RegUnregister, RegHubPushStart, RegRegister, RegPollPop, RegHubPushNext, LbOpen, LbHubPushNext, LbUnregister, LbHubPushStart, LbRegister, ReqOpen, ReqUnregister, ReqRegister, ReqPollPush}
 
 -- ---- an answer's fields, as specs/Answers.antt of the exports packs them
 
@@ -72,6 +72,15 @@ part (RegHubPushStart x) = other
 part (RegRegister e x) = registers e x
 part RegPollPop = polls
 part RegHubPushNext = other
+part LbOpen = other
+part LbHubPushNext = other
+part (LbUnregister e) = other
+part (LbHubPushStart x) = other
+part (LbRegister e x) = other
+part ReqOpen = other
+part (ReqUnregister e) = other
+part (ReqRegister e x) = other
+part (ReqPollPush x f) = other
 
 -- ---- document 01's *waiting* and *active*, moved by a call and its answer alone
 

@@ -20,7 +20,7 @@ use Rattle.regular.specs.Calls.{on, opening, openedBytes}
 use Rattle.regular.specs.declared.Answer.{Answer}
 use Rattle.regular.specs.declared.Answer.the-variants.{Refused, Done, Accepted}
 use Rattle.regular_change.proofs.Acts.{gaps-are, more-is}
-use Rattle.regular_change.proofs.Looks.{place-in}
+use Rattle.entry_tree.proofs.Finding.{place-in}
 use Rattle.regular_change.specs.Inner.{gapOf, more}
 use Rattle.regular_change.specs.declared.look.Gap.{Gap}
 

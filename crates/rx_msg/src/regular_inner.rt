@@ -1,9 +1,10 @@
 // `RegularInner`'s calls. 1: the bytes are not whole. 2: an entry above 127. 3: a subject above 8,191, or slots above 65,535.
 // 5: registered already. 6: no subject slot left. 8: not registered. 9: the slot counter would pass 65,535.
-use entry_tree::entry_at;
-use entry_tree::first_on;
-use entry_tree::len;
 use entry_tree::position;
+use entry_tree::walk::is_at;
+use entry_tree::walk::next_on;
+use entry_tree::walk::set_walk;
+use entry_tree::walk::start_on;
 use multi_cycle_list::inner::MaybeEntry;
 use multi_cycle_list::inner::inner_front;
 use regular::Answer;
@@ -16,14 +17,11 @@ use regular_change::change::open_registry;
 use regular_change::change::pop_clean_up_last;
 use regular_change::change::pop_clean_up_queue;
 use regular_change::change::pop_registration_queue;
-use regular_change::change::set_walk;
 use regular_change::change::wait_for;
 use regular_change::look::Gap;
-use regular_change::look::Walk;
 use regular_change::look::gap_at;
 use regular_change::look::is_active;
 use regular_change::look::is_inactive;
-use regular_change::look::next_on;
 use regular_change::look::on_active;
 use regular_change::look::on_inactive;
 use regular_change::look::slots;
@@ -195,14 +193,9 @@ pub fn hub_push_start(s: &mut [u8], subject: u32) -> Answer
     if 8191 < subject {
         return Answer::Refused(3);
     }
-    let i = first_on(&s[0..385], subject as u16);
-    if i < len(&s[0..385]) {
-        let e = entry_at(&s[0..385], i);
-        set_walk(s, Walk::At(e));
-        return Answer::Started(true);
-    }
-    set_walk(s, Walk::Ended);
-    Answer::Started(false)
+    let w = start_on(&s[0..385], subject as u16);
+    set_walk(s, 1035, w);
+    Answer::Started(is_at(w))
 }
 
 pub fn hub_push_next(s: &mut [u8]) -> Answer
@@ -216,15 +209,7 @@ pub fn hub_push_next(s: &mut [u8]) -> Answer
         return Answer::NotPushed;
     }
     let i = position(&s[0..385], e);
-    let next = next_on(&s[0..385], i);
-    match next {
-        Walk::At(w) => {
-            set_walk(s, Walk::At(w));
-            Answer::Pushed(e, true)
-        }
-        Walk::Ended => {
-            set_walk(s, Walk::Ended);
-            Answer::Pushed(e, false)
-        }
-    }
+    let w = next_on(&s[0..385], i);
+    set_walk(s, 1035, w);
+    Answer::Pushed(e, is_at(w))
 }

@@ -4,3 +4,4 @@ pub mod Numbers
 pub mod Disjoint
 pub mod Calls
 pub mod Filled
+pub mod Bytes

@@ -7,17 +7,16 @@ use Rattle.recorded.proofs.main.Statement.{statement}
 use Rattle.recorded.proofs.main.Tie as tie
 
 abbrev Inv-loop : tie.InvT-loop
-Inv-loop lists₀ keys₀ registry₀ image₀ chunk₀ line₀ turns₀ lists keys registry image chunk line turns =
-    (length lists ≡ 514) × ((length keys ≡ 9979) × ((length registry ≡ 1036) × ((length image ≡ 1024) × (length chunk ≡ 4096))))
+Inv-loop states₀ chunk₀ line₀ turns₀ states chunk line turns = (length states ≡ 13327) × (length chunk ≡ 4096)
 
 abbrev μ-loop : tie.MeasureT-loop
-μ-loop lists₀ keys₀ registry₀ image₀ chunk₀ line₀ turns₀ lists keys registry image chunk line turns = turns
+μ-loop states₀ chunk₀ line₀ turns₀ states chunk line turns = turns
 
 started-requires : tie.Need-started-requires Inv-loop μ-loop
 started-requires c κs = search needs
 
 loop-holds : tie.Need-loop-holds Inv-loop μ-loop
-loop-holds c = (refl, (refl, (refl, (refl, refl))))
+loop-holds c = (refl, refl)
 
 slice-aggregate-read-full : tie.Need-slice-aggregate-read-full Inv-loop μ-loop
 slice-aggregate-read-full c = search needs
@@ -33,15 +32,6 @@ slice-aggregate-fed-all c = search needs
 
 slice-aggregate-fed-all-2 : tie.Need-slice-aggregate-fed-all-2 Inv-loop μ-loop
 slice-aggregate-fed-all-2 c = search needs
-
-slice-aggregate-fed-all-3 : tie.Need-slice-aggregate-fed-all-3 Inv-loop μ-loop
-slice-aggregate-fed-all-3 c = search needs
-
-slice-aggregate-fed-all-4 : tie.Need-slice-aggregate-fed-all-4 Inv-loop μ-loop
-slice-aggregate-fed-all-4 c = search needs
-
-slice-aggregate-fed-all-5 : tie.Need-slice-aggregate-fed-all-5 Inv-loop μ-loop
-slice-aggregate-fed-all-5 c = search needs
 
 fed-all-requires : tie.Need-fed-all-requires Inv-loop μ-loop
 fed-all-requires c κs = search needs
@@ -74,9 +64,6 @@ main-spec =
     array-share-prefix-chunk
     slice-aggregate-fed-all
     slice-aggregate-fed-all-2
-    slice-aggregate-fed-all-3
-    slice-aggregate-fed-all-4
-    slice-aggregate-fed-all-5
     fed-all-requires
     sub-turns
     loop-less

@@ -5,7 +5,8 @@ use mathlib.Core.Bool.{true}
 use native.Mathlib.Omega.{arith}
 use borrow.Author.Count.{below-none, below-more}
 use Rattle.state.proofs.Seq.{all-true, all-false}
-use Rattle.regular.specs.Inner.{markOf, settledB}
+use Rattle.entry_tree.specs.Testing.{markOf}
+use Rattle.regular.specs.Inner.{settledB}
 use Rattle.regular.proofs.Turns.{settled-at, unsettled-at}
 use Rattle.regular.proofs.settled.Statement.{statement}
 use Rattle.regular.proofs.settled.Tie as tie

@@ -7,7 +7,8 @@ use Rattle.state.specs.Seq.{allB}
 use Rattle.multi_cycle_list.specs.Inner.{unmarked}
 use Rattle.entry_tree.specs.Places as tree
 use Rattle.regular.specs.Bytes.{activePart, inactivePart, read}
-use Rattle.regular.specs.Inner.{pairsB, seenAfter, settledB, pointedB}
+use Rattle.entry_tree.specs.Testing.{pairsB, seenAfter, pointedB}
+use Rattle.regular.specs.Inner.{settledB}
 use Rattle.regular.proofs.Parts.{split}
 use Rattle.regular.proofs.Grounds.{Ground, sizes-of, no-length, no-sizes, no-queue, no-active, no-inactive, no-settled, no-last, whole-last}
 use Rattle.regular.proofs.whole.Statement.{statement}
@@ -54,7 +55,7 @@ slice-aggregate-pairs-ok : tie.Need-slice-aggregate-pairs-ok
 slice-aggregate-pairs-ok c = search needs
 
 pairs-ok-requires : tie.Need-pairs-ok-requires
-pairs-ok-requires c κs = (split (c .before .before .before .before .before .before .before .before .before .before .before .args .s .now) (c .before .before .before .before .before .before .before .before .before .if1 .left) .long-a, (c .before .before .before .before .whole-marked .kept .1 .0, sizes-of (c .before .before .before .before .before .before .before .before .before .before .before .args .s .now) (sym (c .before .before .before .before .before .before .before .before .sizes .ensures) ∙ c .before .before .before .before .before .before .before .if2 .taken) .active))
+pairs-ok-requires c κs = ((split (c .before .before .before .before .before .before .before .before .before .before .before .args .s .now) (c .before .before .before .before .before .before .before .before .before .if1 .left) .long-a, (c .before .before .before .before .whole-marked .kept .1 .0, sizes-of (c .before .before .before .before .before .before .before .before .before .before .before .args .s .now) (sym (c .before .before .before .before .before .before .before .before .sizes .ensures) ∙ c .before .before .before .before .before .before .before .if2 .taken) .active)), (omega arith, omega arith))
 
 returns-4 : tie.Need-returns-4
 returns-4 c = sym (no-active (c .before .before .before .before .before .before .before .before .before .before .before .before .before .before .args .s .now) _ (record { long = c .before .before .before .before .before .before .before .before .before .before .before .before .if1 .left; sizes = sym (c .before .before .before .before .before .before .before .before .before .before .before .sizes .ensures) ∙ c .before .before .before .before .before .before .before .before .before .before .if2 .taken; queue = sym (c .before .before .before .before .before .before .before .whole-marked .ensures .test) ∙ c .before .before .before .before .before .if3 .taken; marked = c .before .before .before .before .before .before .before .whole-marked .ensures .marked (c .before .before .before .before .before .if3 .taken); room = c .before .before .before .before .before .before .before .whole-marked .kept .1 .0 }) (sym (c .before .before .pairs-ok .ensures .test) ∙ c .if4 .left))
@@ -72,10 +73,10 @@ slice-aggregate-pairs-ok-2 : tie.Need-slice-aggregate-pairs-ok-2
 slice-aggregate-pairs-ok-2 c = search needs
 
 pairs-ok-requires-2 : tie.Need-pairs-ok-requires-2
-pairs-ok-requires-2 c κs = (split (c .before .before .before .before .before .before .before .before .before .before .before .before .before .before .before .before .args .s .now) (c .before .before .before .before .before .before .before .before .before .before .before .before .before .before .if1 .left) .long-i, (c .before .before .before .before .pairs-ok .kept .1 .0 ∙ c .before .before .before .before .before .before .before .before .before .whole-marked .kept .1 .0, sizes-of (c .before .before .before .before .before .before .before .before .before .before .before .before .before .before .before .before .args .s .now) (sym (c .before .before .before .before .before .before .before .before .before .before .before .before .before .sizes .ensures) ∙ c .before .before .before .before .before .before .before .before .before .before .before .before .if2 .taken) .inactive))
+pairs-ok-requires-2 c κs = ((split (c .before .before .before .before .before .before .before .before .before .before .before .before .before .before .before .before .args .s .now) (c .before .before .before .before .before .before .before .before .before .before .before .before .before .before .if1 .left) .long-i, (c .before .before .before .before .pairs-ok .kept .1 .0 ∙ c .before .before .before .before .before .before .before .before .before .whole-marked .kept .1 .0, sizes-of (c .before .before .before .before .before .before .before .before .before .before .before .before .before .before .before .before .args .s .now) (sym (c .before .before .before .before .before .before .before .before .before .before .before .before .before .sizes .ensures) ∙ c .before .before .before .before .before .before .before .before .before .before .before .before .if2 .taken) .inactive)), (omega arith, omega arith))
 
 returns-5 : tie.Need-returns-5
-returns-5 c = let s = c .before .before .before .before .before .before .before .before .before .before .before .before .before .before .before .before .before .before .before .args .s .now in sym (no-inactive s _ (record { long = c .before .before .before .before .before .before .before .before .before .before .before .before .before .before .before .before .before .if1 .left; sizes = sym (c .before .before .before .before .before .before .before .before .before .before .before .before .before .before .before .before .sizes .ensures) ∙ c .before .before .before .before .before .before .before .before .before .before .before .before .before .before .before .if2 .taken; queue = sym (c .before .before .before .before .before .before .before .before .before .before .before .before .whole-marked .ensures .test) ∙ c .before .before .before .before .before .before .before .before .before .before .if3 .taken; marked = c .before .before .before .before .before .before .before .before .before .before .before .before .whole-marked .ensures .marked (c .before .before .before .before .before .before .before .before .before .before .if3 .taken); room = c .before .before .before .before .before .before .before .before .before .before .before .before .whole-marked .kept .1 .0 }) (ap (λ (z : List ℕ). pairsB 2 2 4 z 0 (tree.read (inactivePart s))) (sym (c .before .before .before .before .before .before .before .pairs-ok .ensures .marks (c .before .before .before .before .before .if4 .taken))) ∙ sym (c .before .before .pairs-ok2 .ensures .test) ∙ c .if5 .left))
+returns-5 c = let s = c .before .before .before .before .before .before .before .before .before .before .before .before .before .before .before .before .before .before .before .args .s .now in sym (no-inactive s _ (record { long = c .before .before .before .before .before .before .before .before .before .before .before .before .before .before .before .before .before .if1 .left; sizes = sym (c .before .before .before .before .before .before .before .before .before .before .before .before .before .before .before .before .sizes .ensures) ∙ c .before .before .before .before .before .before .before .before .before .before .before .before .before .before .before .if2 .taken; queue = sym (c .before .before .before .before .before .before .before .before .before .before .before .before .whole-marked .ensures .test) ∙ c .before .before .before .before .before .before .before .before .before .before .if3 .taken; marked = c .before .before .before .before .before .before .before .before .before .before .before .before .whole-marked .ensures .marked (c .before .before .before .before .before .before .before .before .before .before .if3 .taken); room = c .before .before .before .before .before .before .before .before .before .before .before .before .whole-marked .kept .1 .0 }) (ap (λ (z : List ℕ). pairsB 8191 1 2 2 4 z 0 (tree.read (inactivePart s))) (sym (c .before .before .before .before .before .before .before .pairs-ok .ensures .marks (c .before .before .before .before .before .if4 .taken))) ∙ sym (c .before .before .pairs-ok2 .ensures .test) ∙ c .if5 .left))
 
 slice-aggregate-settled : tie.Need-slice-aggregate-settled
 slice-aggregate-settled c = search needs
@@ -92,14 +93,17 @@ last-ok-requires c κs = (c .before .before .before .before .before .before .bef
 returns-7 : tie.Need-returns-7
 returns-7 c = sym (no-last (c .before .before .before .before .before .before .before .before .before .before .before .before .before .before .before .before .before .before .before .before .before .before .before .before .args .s .now) _ (record { long = c .before .before .before .before .before .before .before .before .before .before .before .before .before .before .before .before .before .before .before .before .before .before .if1 .left; sizes = sym (c .before .before .before .before .before .before .before .before .before .before .before .before .before .before .before .before .before .before .before .before .before .sizes .ensures) ∙ c .before .before .before .before .before .before .before .before .before .before .before .before .before .before .before .before .before .before .before .before .if2 .taken; queue = sym (c .before .before .before .before .before .before .before .before .before .before .before .before .before .before .before .before .before .whole-marked .ensures .test) ∙ c .before .before .before .before .before .before .before .before .before .before .before .before .before .before .before .if3 .taken; marked = c .before .before .before .before .before .before .before .before .before .before .before .before .before .before .before .before .before .whole-marked .ensures .marked (c .before .before .before .before .before .before .before .before .before .before .before .before .before .before .before .if3 .taken); room = c .before .before .before .before .before .before .before .before .before .before .before .before .before .before .before .before .before .whole-marked .kept .1 .0 }) (sym (c .before .last-ok .ensures) ∙ c .if7 .left))
 
-slice-aggregate-walk-ok : tie.Need-slice-aggregate-walk-ok
-slice-aggregate-walk-ok c = search needs
+slice-aggregate-pointed : tie.Need-slice-aggregate-pointed
+slice-aggregate-pointed c = search needs
 
-walk-ok-requires : tie.Need-walk-ok-requires
-walk-ok-requires c κs = (c .before .before .before .before .before .before .before .before .before .before .before .before .before .before .before .before .before .before .before .before .before .before .before .if1 .left, c .before .before .before .before .before .before .before .before .pairs-ok2 .kept .1 .0 ∙ c .before .before .before .before .before .before .before .before .before .before .before .before .before .pairs-ok .kept .1 .0 ∙ c .before .before .before .before .before .before .before .before .before .before .before .before .before .before .before .before .before .before .whole-marked .kept .1 .0)
+shared-slice-read-pointed : tie.Need-shared-slice-read-pointed
+shared-slice-read-pointed c = search needs
+
+pointed-requires : tie.Need-pointed-requires
+pointed-requires c κs = c .before .before .before .before .before .before .before .before .before .pairs-ok2 .kept .1 .0 ∙ c .before .before .before .before .before .before .before .before .before .before .before .before .before .before .pairs-ok .kept .1 .0 ∙ c .before .before .before .before .before .before .before .before .before .before .before .before .before .before .before .before .before .before .before .whole-marked .kept .1 .0
 
 returns-8 : tie.Need-returns-8
-returns-8 c = let s = c .before .before .before .before .before .before .before .before .before .before .before .before .before .before .before .before .before .before .before .before .before .before .before .before .before .before .args .s .now in let q = c .before .before .before .before .before .before .before .before .before .pairs-ok2 .ensures .marks (c .before .before .before .before .before .before .before .if5 .taken) ∙ ap (λ (z : List ℕ). seenAfter 4 z (tree.read (inactivePart s))) (c .before .before .before .before .before .before .before .before .before .before .before .before .before .before .pairs-ok .ensures .marks (c .before .before .before .before .before .before .before .before .before .before .before .before .if4 .taken)) in c .walk-ok .ensures ∙ ap (λ (z : List ℕ). pointedB z ((read s) .walk)) q ∙ sym (whole-last s _ (record { long = c .before .before .before .before .before .before .before .before .before .before .before .before .before .before .before .before .before .before .before .before .before .before .before .before .if1 .left; sizes = sym (c .before .before .before .before .before .before .before .before .before .before .before .before .before .before .before .before .before .before .before .before .before .before .before .sizes .ensures) ∙ c .before .before .before .before .before .before .before .before .before .before .before .before .before .before .before .before .before .before .before .before .before .before .if2 .taken; queue = sym (c .before .before .before .before .before .before .before .before .before .before .before .before .before .before .before .before .before .before .before .whole-marked .ensures .test) ∙ c .before .before .before .before .before .before .before .before .before .before .before .before .before .before .before .before .before .if3 .taken; marked = c .before .before .before .before .before .before .before .before .before .before .before .before .before .before .before .before .before .before .before .whole-marked .ensures .marked (c .before .before .before .before .before .before .before .before .before .before .before .before .before .before .before .before .before .if3 .taken); room = c .before .before .before .before .before .before .before .before .before .before .before .before .before .before .before .before .before .before .before .whole-marked .kept .1 .0 }) (sym (c .before .before .before .before .before .before .before .before .before .before .before .before .before .before .pairs-ok .ensures .test) ∙ c .before .before .before .before .before .before .before .before .before .before .before .before .if4 .taken) (ap (λ (z : List ℕ). pairsB 2 2 4 z 0 (tree.read (inactivePart s))) (sym (c .before .before .before .before .before .before .before .before .before .before .before .before .before .before .pairs-ok .ensures .marks (c .before .before .before .before .before .before .before .before .before .before .before .before .if4 .taken))) ∙ sym (c .before .before .before .before .before .before .before .before .before .pairs-ok2 .ensures .test) ∙ c .before .before .before .before .before .before .before .if5 .taken) (ap (λ (z : List ℕ). allB 128 (settledB z)) (sym q) ∙ sym (c .before .before .before .before .before .settled .ensures) ∙ c .before .before .before .before .if6 .taken) (sym (c .before .before .before .last-ok .ensures) ∙ c .before .before .if7 .taken))
+returns-8 c = let s = c .before .before .before .before .before .before .before .before .before .before .before .before .before .before .before .before .before .before .before .before .before .before .before .before .before .before .before .args .s .now in let q = c .before .before .before .before .before .before .before .before .before .before .pairs-ok2 .ensures .marks (c .before .before .before .before .before .before .before .before .if5 .taken) ∙ ap (λ (z : List ℕ). seenAfter 4 z (tree.read (inactivePart s))) (c .before .before .before .before .before .before .before .before .before .before .before .before .before .before .before .pairs-ok .ensures .marks (c .before .before .before .before .before .before .before .before .before .before .before .before .before .if4 .taken)) in c .pointed .ensures ∙ ap (λ (z : List ℕ). pointedB z ((read s) .walk)) q ∙ sym (whole-last s _ (record { long = c .before .before .before .before .before .before .before .before .before .before .before .before .before .before .before .before .before .before .before .before .before .before .before .before .before .if1 .left; sizes = sym (c .before .before .before .before .before .before .before .before .before .before .before .before .before .before .before .before .before .before .before .before .before .before .before .before .sizes .ensures) ∙ c .before .before .before .before .before .before .before .before .before .before .before .before .before .before .before .before .before .before .before .before .before .before .before .if2 .taken; queue = sym (c .before .before .before .before .before .before .before .before .before .before .before .before .before .before .before .before .before .before .before .before .whole-marked .ensures .test) ∙ c .before .before .before .before .before .before .before .before .before .before .before .before .before .before .before .before .before .before .if3 .taken; marked = c .before .before .before .before .before .before .before .before .before .before .before .before .before .before .before .before .before .before .before .before .whole-marked .ensures .marked (c .before .before .before .before .before .before .before .before .before .before .before .before .before .before .before .before .before .before .if3 .taken); room = c .before .before .before .before .before .before .before .before .before .before .before .before .before .before .before .before .before .before .before .before .whole-marked .kept .1 .0 }) (sym (c .before .before .before .before .before .before .before .before .before .before .before .before .before .before .before .pairs-ok .ensures .test) ∙ c .before .before .before .before .before .before .before .before .before .before .before .before .before .if4 .taken) (ap (λ (z : List ℕ). pairsB 8191 1 2 2 4 z 0 (tree.read (inactivePart s))) (sym (c .before .before .before .before .before .before .before .before .before .before .before .before .before .before .before .pairs-ok .ensures .marks (c .before .before .before .before .before .before .before .before .before .before .before .before .before .if4 .taken))) ∙ sym (c .before .before .before .before .before .before .before .before .before .before .pairs-ok2 .ensures .test) ∙ c .before .before .before .before .before .before .before .before .if5 .taken) (ap (λ (z : List ℕ). allB 128 (settledB z)) (sym q) ∙ sym (c .before .before .before .before .before .before .settled .ensures) ∙ c .before .before .before .before .before .if6 .taken) (sym (c .before .before .before .before .last-ok .ensures) ∙ c .before .before .before .if7 .taken))
 
 pub whole-spec : {M : Type 1} → statement M
 whole-spec =
@@ -131,6 +135,7 @@ whole-spec =
     returns-6
     last-ok-requires
     returns-7
-    slice-aggregate-walk-ok
-    walk-ok-requires
+    slice-aggregate-pointed
+    shared-slice-read-pointed
+    pointed-requires
     returns-8)

@@ -1,10 +1,8 @@
 use borrow.Author.Needs.{needs}
 use native.Mathlib.Omega.{arith}
-use mathlib.Core.Path.{refl, sym, ap, _∙_}
-use mathlib.Core.Option.{none, some}
+use mathlib.Core.Path.{refl, sym, _∙_}
 use Rattle.entry_tree.proofs.Reading.{bytes-of}
 use Rattle.regular.specs.Steps.{hubPushNext}
-use Rattle.regular_change.specs.Inner.{walkAt}
 use Rattle.rx_msg.proofs.Calls.{unwhole}
 use Rattle.regular_change.proofs.Looks.{known}
 use Rattle.rx_msg.proofs.Walking.{next-nowhere, pointed-place, next-pushed}
@@ -53,29 +51,17 @@ part-next-on-end c = omega (arith, known (c .before .before .before .before .bef
 next-on-requires : tie.Need-next-on-requires
 next-on-requires c κs = let k = known (c .before .before .before .before .before .before .before .before .before .before .before .args .s .now) (sym (c .before .before .before .before .before .before .before .before .whole .ensures) ∙ c .before .before .before .before .before .before .before .if1 .taken) in (k .active-long, (k .active-few, pointed-place (c .before .before .before .before .before .before .before .before .before .before .before .args .s .now) (bytes-of (c .before .before .before .before .before .before .before .before .before .before .before .args .s .now) (c .before .before .before .before .before .before .before .before .before .before .slice-known .given)) (sym (c .before .before .before .before .before .before .before .before .whole .ensures) ∙ c .before .before .before .before .before .before .before .if1 .taken) _ refl (c .before .before .before .before .before .if2 .left) _ (c .before .before .position .ensures)))
 
-enum-known-next : tie.Need-enum-known-next
-enum-known-next c = search needs
-
 set-walk-requires : tie.Need-set-walk-requires
-set-walk-requires c κs = known (c .before .before .before .before .before .before .before .before .before .before .before .before .before .before .before .before .args .s .now) (sym (c .before .before .before .before .before .before .before .before .before .before .before .before .before .whole .ensures) ∙ c .before .before .before .before .before .before .before .before .before .before .before .before .if1 .taken) .long
+set-walk-requires c κs = omega (arith, known (c .before .before .before .before .before .before .before .before .before .before .before .before .before .args .s .now) (sym (c .before .before .before .before .before .before .before .before .before .before .whole .ensures) ∙ c .before .before .before .before .before .before .before .before .before .if1 .taken) .long)
 
-enum-told : tie.Need-enum-told
-enum-told c = search needs
-
-set-walk-requires-2 : tie.Need-set-walk-requires-2
-set-walk-requires-2 c κs = known (c .before .before .before .before .before .before .before .before .before .before .before .before .before .before .before .args .s .now) (sym (c .before .before .before .before .before .before .before .before .before .before .before .before .whole .ensures) ∙ c .before .before .before .before .before .before .before .before .before .before .before .if1 .taken) .long
+is-at-requires : tie.Need-is-at-requires
+is-at-requires c κs = search needs
 
 same-length-3 : tie.Need-same-length-3
 same-length-3 c = search needs
 
 returns-3 : tie.Need-returns-3
-returns-3 c = next-pushed (c .before .before .before .before .before .before .before .before .before .before .before .before .before .before .before .before .before .before .before .args .s .now) (bytes-of (c .before .before .before .before .before .before .before .before .before .before .before .before .before .before .before .before .before .before .before .args .s .now) (c .before .before .before .before .before .before .before .before .before .before .before .before .before .before .before .before .before .before .slice-known .given)) (sym (c .before .before .before .before .before .before .before .before .before .before .before .before .before .before .before .before .whole .ensures) ∙ c .before .before .before .before .before .before .before .before .before .before .before .before .before .before .before .if1 .taken) _ refl (c .before .before .before .before .before .before .before .before .before .before .before .before .before .if2 .left) _ (c .before .before .before .before .before .before .before .before .before .before .position .ensures) (some (c .before .before .before .before .before .next .given .0 .0)) (ap walkAt (sym (c .before .before .before .before .before .next .given .1)) ∙ c .before .before .before .before .before .before .before .next-on .ensures) _ (c .before .before .set-walk .ensures)
-
-same-length-4 : tie.Need-same-length-4
-same-length-4 c = search needs
-
-returns-4 : tie.Need-returns-4
-returns-4 c = next-pushed (c .before .before .before .before .before .before .before .before .before .before .before .before .before .before .before .before .before .before .args .s .now) (bytes-of (c .before .before .before .before .before .before .before .before .before .before .before .before .before .before .before .before .before .before .args .s .now) (c .before .before .before .before .before .before .before .before .before .before .before .before .before .before .before .before .before .slice-known .given)) (sym (c .before .before .before .before .before .before .before .before .before .before .before .before .before .before .before .whole .ensures) ∙ c .before .before .before .before .before .before .before .before .before .before .before .before .before .before .if1 .taken) _ refl (c .before .before .before .before .before .before .before .before .before .before .before .before .if2 .left) _ (c .before .before .before .before .before .before .before .before .before .position .ensures) none (ap walkAt (sym (c .before .before .before .before .enum-told .given .1)) ∙ c .before .before .before .before .before .before .next-on .ensures) _ (c .before .before .set-walk2 .ensures)
+returns-3 c = next-pushed (c .before .before .before .before .before .before .before .before .before .before .before .before .before .before .before .before .before .args .s .now) (bytes-of (c .before .before .before .before .before .before .before .before .before .before .before .before .before .before .before .before .before .args .s .now) (c .before .before .before .before .before .before .before .before .before .before .before .before .before .before .before .before .slice-known .given)) (sym (c .before .before .before .before .before .before .before .before .before .before .before .before .before .before .whole .ensures) ∙ c .before .before .before .before .before .before .before .before .before .before .before .before .before .if1 .taken) _ refl (c .before .before .before .before .before .before .before .before .before .before .before .if2 .left) _ (c .before .before .before .before .before .before .before .before .position .ensures) _ (c .before .before .before .before .before .next-on .ensures) _ (c .is-at .ensures) _ (c .before .before .before .set-walk .ensures)
 
 pub hub-push-next-spec : {M : Type 1} → statement M
 hub-push-next-spec =
@@ -95,11 +81,7 @@ hub-push-next-spec =
     part-next-on-start
     part-next-on-end
     next-on-requires
-    enum-known-next
     set-walk-requires
-    enum-told
-    set-walk-requires-2
+    is-at-requires
     same-length-3
-    returns-3
-    same-length-4
-    returns-4)
+    returns-3)

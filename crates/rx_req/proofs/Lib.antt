@@ -1,0 +1,4 @@
+pub mod Testing
+pub mod Keeping
+pub mod Mean
+pub mod Calls

@@ -269,6 +269,7 @@ int main(void)
 {
     bench_registries();
     bench_trees();
+    bench_transmission();
     printf("%-30s%4s%8s%11s\n", "queues, entries", "", "pass ns", "test alone");
     bench_lists(2, 0);
     bench_lists(2, 16);

@@ -12,7 +12,9 @@ enum { REPETITIONS = 60 };
 /*
  * Direct calls on both sides, so that neither has more around it. Polls answer whether
  * there was an update, walks whether an entry is pointed at or more follow, pushes
- * whether the service has an entry. What a kind has not is left out.
+ * whether the service has an entry. A pop is a pick of the mask and its settlement,
+ * with a frame that has this last byte, at the priority that all entries have and
+ * keep; it answers whether an entry was picked. What a kind has not is left out.
  */
 struct calls {
     void (*open)(uint32_t slots);
@@ -22,9 +24,15 @@ struct calls {
     bool (*start)(uint32_t subject);
     bool (*next)(void);
     bool (*push)(uint32_t service);
+    void (*update)(uint32_t entry, uint32_t readiness);
+    bool (*pop)(uint32_t mask, uint32_t last);
 };
 
+/* A frame's length, and the priority that entries are ready at, as a number and as a set. */
+enum { FRAME_LENGTH = 8, PRIORITY = 4, READY = 1 << PRIORITY };
+
 static uint8_t reg[GOMXELI_REG_LENGTH], lb[GOMXELI_LB_LENGTH], req[GOMXELI_REQ_LENGTH];
+static uint8_t txm[GOMXELI_TXM_LENGTH], txr[GOMXELI_TXR_LENGTH];
 
 /* Registering and removing, and walking, of a kind whose state has its name. */
 #define ENTRIES_OF(kind) \
@@ -46,11 +54,48 @@ static uint8_t reg[GOMXELI_REG_LENGTH], lb[GOMXELI_LB_LENGTH], req[GOMXELI_REQ_L
         return gomxeli_second(gomxeli_##kind##_hub_push_next(kind, sizeof kind)) == 1; \
     }
 
+#define POPS_OF(kind) \
+    static void our_##kind##_open(uint32_t slots) \
+    { \
+        (void)slots; \
+        gomxeli_##kind##_open(kind, sizeof kind); \
+    } \
+    static void our_##kind##_unregister(uint32_t entry) \
+    { \
+        gomxeli_##kind##_unregister(kind, sizeof kind, entry); \
+    } \
+    static void our_##kind##_update(uint32_t entry, uint32_t readiness) \
+    { \
+        gomxeli_##kind##_update(kind, sizeof kind, entry, (uint8_t)readiness); \
+    } \
+    static bool our_##kind##_pop(uint32_t mask, uint32_t last) \
+    { \
+        gomxeli_answer a = gomxeli_##kind##_pick(kind, sizeof kind, (uint8_t)mask, FRAME_LENGTH); \
+        if (gomxeli_what(a) == 0) \
+            return false; \
+        gomxeli_##kind##_settle(kind, sizeof kind, 1, READY, gomxeli_second(a), FRAME_LENGTH, \
+                                (uint8_t)last); \
+        return true; \
+    }
+
 ENTRIES_OF(reg)
 ENTRIES_OF(lb)
 ENTRIES_OF(req)
 WALKS_OF(reg)
 WALKS_OF(lb)
+POPS_OF(txm)
+POPS_OF(txr)
+
+static void our_txm_register(uint32_t entry, uint32_t subject)
+{
+    gomxeli_txm_register(txm, sizeof txm, entry, subject, READY);
+}
+
+static void our_txr_register(uint32_t entry, uint32_t subject)
+{
+    (void)subject;
+    gomxeli_txr_register(txr, sizeof txr, entry, READY);
+}
 
 static void our_reg_open(uint32_t slots)
 {
@@ -82,17 +127,21 @@ static bool our_req_push(uint32_t service)
 /* The calls of one side, which is a word that their names begin with. */
 #define REG_CALLS(side) \
     {side##_reg_open, side##_reg_register, side##_reg_unregister, side##_reg_poll, \
-     side##_reg_start, side##_reg_next, NULL}
+     side##_reg_start, side##_reg_next, NULL, NULL, NULL}
 #define LB_CALLS(side) \
     {side##_lb_open, side##_lb_register, side##_lb_unregister, NULL, \
-     side##_lb_start, side##_lb_next, NULL}
+     side##_lb_start, side##_lb_next, NULL, NULL, NULL}
 #define REQ_CALLS(side) \
     {side##_req_open, side##_req_register, side##_req_unregister, NULL, NULL, NULL, \
-     side##_req_push}
+     side##_req_push, NULL, NULL}
+#define TX_CALLS(side_kind) \
+    {side_kind##_open, side_kind##_register, side_kind##_unregister, NULL, NULL, NULL, NULL, \
+     side_kind##_update, side_kind##_pop}
 
-enum { REG, LB, REQ, KINDS };
+enum { REG, LB, REQ, TXM, TXR, KINDS };
 
-static const struct calls ours[KINDS] = {REG_CALLS(our), LB_CALLS(our), REQ_CALLS(our)};
+static const struct calls ours[KINDS] = {REG_CALLS(our), LB_CALLS(our), REQ_CALLS(our),
+                                         TX_CALLS(our_txm), TX_CALLS(our_txr)};
 
 #ifdef BENCH_RUST
 
@@ -104,8 +153,15 @@ bool rust_reg_poll(void);
 bool rust_reg_start(uint32_t subject), rust_reg_next(void);
 bool rust_lb_start(uint32_t subject), rust_lb_next(void);
 bool rust_req_push(uint32_t service);
+void rust_txm_open(uint32_t slots), rust_txr_open(uint32_t slots);
+void rust_txm_register(uint32_t entry, uint32_t subject), rust_txm_unregister(uint32_t entry);
+void rust_txr_register(uint32_t entry, uint32_t subject), rust_txr_unregister(uint32_t entry);
+void rust_txm_update(uint32_t entry, uint32_t readiness);
+void rust_txr_update(uint32_t entry, uint32_t readiness);
+bool rust_txm_pop(uint32_t mask, uint32_t last), rust_txr_pop(uint32_t mask, uint32_t last);
 
-static const struct calls rusts[KINDS] = {REG_CALLS(rust), LB_CALLS(rust), REQ_CALLS(rust)};
+static const struct calls rusts[KINDS] = {REG_CALLS(rust), LB_CALLS(rust), REQ_CALLS(rust),
+                                          TX_CALLS(rust_txm), TX_CALLS(rust_txr)};
 static const struct calls *const rust = rusts;
 
 #else
@@ -169,6 +225,36 @@ static unsigned push_all(const struct run *run)
     return run->count;
 }
 
+/* Each to the next priority, and back. */
+static unsigned update_all(const struct run *run)
+{
+    for (unsigned i = 0; i < 2 * run->count; i++)
+        run->calls->update(i / 2, i % 2 == 0 ? READY << 1 : READY);
+    return 2 * run->count;
+}
+
+static unsigned pop_all(const struct run *run, uint32_t mask, uint32_t last)
+{
+    for (unsigned i = 0; i < run->count; i++)
+        run->calls->pop(mask, last);
+    return run->count;
+}
+
+static unsigned pop_last_frames(const struct run *run)
+{
+    return pop_all(run, UINT8_MAX, 64);
+}
+
+static unsigned pop_other_frames(const struct run *run)
+{
+    return pop_all(run, UINT8_MAX, 0);
+}
+
+static unsigned pop_nothing(const struct run *run)
+{
+    return pop_all(run, READY << 1, 0);
+}
+
 /* From both ends, so that marks come and go. */
 static unsigned unregister_all(const struct run *run)
 {
@@ -182,7 +268,7 @@ struct part {
     unsigned (*made)(const struct run *run); /* answers how many calls */
 };
 
-enum { MOST_PARTS = 5 };
+enum { MOST_PARTS = 6 };
 
 static const struct part reg_parts[] = {{"register", register_all},
                                         {"poll the adds", poll_all},
@@ -194,6 +280,14 @@ static const struct part lb_parts[] = {
     {"register", register_all}, {"walk", walk_all}, {"unregister", unregister_all}, {NULL, NULL}};
 static const struct part req_parts[] = {
     {"register", register_all}, {"push", push_all}, {"unregister", unregister_all}, {NULL, NULL}};
+
+static const struct part tx_parts[] = {{"register", register_all},
+                                       {"update", update_all},
+                                       {"pop, last frame", pop_last_frames},
+                                       {"pop, another", pop_other_frames},
+                                       {"pop, nothing", pop_nothing},
+                                       {"unregister", unregister_all},
+                                       {NULL, NULL}};
 
 /* ------------------------------------------------------------------------ */
 /* Kinds                                                                    */
@@ -209,6 +303,8 @@ static const struct kind {
     [REG] = {"regular, entries", "own subjects", 20, true, reg_parts},
     [LB] = {"loop-back, entries", "own subjects", 20, true, lb_parts},
     [REQ] = {"requests, entries", "own services", 3, false, req_parts},
+    [TXM] = {"message transmission, entries", "own subjects", 20, false, tx_parts},
+    [TXR] = {"response transmission, entries", "no subjects", 20, false, tx_parts},
 };
 
 /* The least nanoseconds of a call in each part. */

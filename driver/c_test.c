@@ -151,6 +151,7 @@ int main(void)
     test_reg_whole();
     test_lb();
     test_req();
+    test_tx();
     test_img();
     test_filter();
     test_mcq();

@@ -16,6 +16,7 @@ void test_reg(void);
 void test_reg_whole(void);
 void test_lb(void);
 void test_req(void);
+void test_tx(void);
 void test_img(void);
 void test_filter(void);
 void test_mcq(void);

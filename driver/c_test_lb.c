@@ -9,16 +9,16 @@
 #include "state_lb.h"
 
 static const struct modelled modelled[] = {
-    {"lb_register", lb_register, model_lb_register, {ENTRY, SUBJECT}},
-    {"lb_unregister", lb_unregister, model_lb_unregister, {ENTRY}},
-    {"lb_hub_push_start", lb_hub_push_start, model_lb_hub_push_start, {SUBJECT}},
-    {"lb_hub_push_next", lb_hub_push_next, model_lb_hub_push_next, {NO_NUMBER}},
-    {NULL, NULL, NULL, {NO_NUMBER}},
+    {"lb_register", lb_register, model_lb_register, {ENTRY, SUBJECT}, 0},
+    {"lb_unregister", lb_unregister, model_lb_unregister, {ENTRY}, 0},
+    {"lb_hub_push_start", lb_hub_push_start, model_lb_hub_push_start, {SUBJECT}, 0},
+    {"lb_hub_push_next", lb_hub_push_next, model_lb_hub_push_next, {NO_NUMBER}, 0},
+    NO_MODELLED,
 };
 
 static const uint32_t spans[] = {1, 3, 128, 8192, 0};
 
-static const struct one_tree kind = {389, lb_open, modelled, &lb_model, 8191, spans};
+static const struct modelled_kind kind = {389, lb_open, modelled, &lb_model, 8191, spans, false};
 
 /* ------------------------------------------------------------------------ */
 /* Cases                                                                    */

@@ -8,15 +8,15 @@
 #include "random.h"
 
 static const struct modelled modelled[] = {
-    {"req_register", req_register, model_req_register, {ENTRY, SUBJECT}},
-    {"req_unregister", req_unregister, model_req_unregister, {ENTRY}},
-    {"req_poll_push", req_poll_push, model_req_poll_push, {SUBJECT, LOOP_BACK}},
-    {NULL, NULL, NULL, {NO_NUMBER}},
+    {"req_register", req_register, model_req_register, {ENTRY, SUBJECT}, 0},
+    {"req_unregister", req_unregister, model_req_unregister, {ENTRY}, 0},
+    {"req_poll_push", req_poll_push, model_req_poll_push, {SUBJECT, LOOP_BACK}, 0},
+    NO_MODELLED,
 };
 
 static const uint32_t spans[] = {128, 512, 0};
 
-static const struct one_tree kind = {385, req_open, modelled, &req_model, 511, spans};
+static const struct modelled_kind kind = {385, req_open, modelled, &req_model, 511, spans, false};
 
 /* ------------------------------------------------------------------------ */
 /* Cases                                                                    */

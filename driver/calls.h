@@ -12,7 +12,7 @@
 #include "gomxeli.h"
 
 /* The most numbers that a call takes. */
-enum { MOST_NUMBERS = 2 };
+enum { MOST_NUMBERS = 5 };
 
 typedef gomxeli_answer call_function(uint8_t *state, size_t len, const uint32_t *n);
 
@@ -22,6 +22,10 @@ call_function reg_open, reg_register, reg_unregister, reg_poll_pop, reg_hub_push
 call_function lb_open, lb_register, lb_unregister, lb_hub_push_start, lb_hub_push_next;
 
 call_function req_open, req_register, req_unregister, req_poll_push;
+
+call_function txm_open, txm_register, txm_unregister, txm_update, txm_pick, txm_settle;
+
+call_function txr_open, txr_register, txr_unregister, txr_update, txr_pick, txr_settle;
 
 call_function img_open, img_add_subject, img_remove_subject_range, img_has_subject;
 

@@ -21,8 +21,8 @@
 #include "lent.h"
 #include "random.h"
 
-static struct kind *const kinds[] = {&kind_reg, &kind_lb,  &kind_req,
-                                     &kind_img, &kind_mcq, &kind_iq};
+static struct kind *const kinds[] = {&kind_reg, &kind_lb,  &kind_req, &kind_txm,
+                                     &kind_txr, &kind_img, &kind_mcq, &kind_iq};
 
 enum { KINDS = sizeof kinds / sizeof kinds[0] };
 
@@ -180,17 +180,13 @@ void resize(struct bytes *state, size_t len)
     state->len = len;
 }
 
-/* Lengths that the states of other kinds have or will have. */
+/* A length that the states of some kind have. */
 static size_t other_length(void)
 {
-    static const size_t to_come[] = {805, 677};
-    enum { TO_COME = sizeof to_come / sizeof to_come[0] };
     uint32_t n[MOST_NUMBERS];
-    unsigned pick = below(TO_COME + KINDS);
-    if (pick < TO_COME)
-        return to_come[pick];
-    kinds[pick - TO_COME]->draw_sizes(n);
-    return kinds[pick - TO_COME]->length(n);
+    const struct kind *kind = kinds[below(KINDS)];
+    kind->draw_sizes(n);
+    return kind->length(n);
 }
 
 static void draw_random(struct kind *kind, struct bytes *state)
@@ -430,7 +426,8 @@ int main(int count, char **words)
         sweep(kinds[k]);
     for (uint64_t round = 0; round < options.rounds; round++) {
         for (unsigned k = 0; k < KINDS; k++)
-            try_round(kinds[k]);
+            if (kinds[k]->every == 0 || round % kinds[k]->every == 0)
+                try_round(kinds[k]);
         try_leaves();
     }
     bool enough = report_all();

@@ -64,11 +64,16 @@ struct kind {
     /* Steps of the model that must be met, or none. */
     struct branch *branches;
     unsigned branch_count;
+
+    /* A round of the kind is made in one of so many; 0 is as 1. */
+    unsigned every;
 };
 
 extern struct kind kind_reg;
 extern struct kind kind_lb;
 extern struct kind kind_req;
+extern struct kind kind_txm;
+extern struct kind kind_txr;
 extern struct kind kind_img;
 extern struct kind kind_mcq;
 extern struct kind kind_iq;

@@ -193,22 +193,15 @@ static void swap_some_places(struct bytes *state)
     swap_places(state, some_tree(), some_tree());
 }
 
-/* An entry in another queue, or in another place of its own, or in none. */
 static void spoil_queues(struct bytes *state)
 {
-    struct lists *queues = &plain_registry.queues;
     unsigned entry = one_in(2) ? some_place(state, some_tree())[0] : below(REGISTRY_ENTRIES);
-    unsigned cls = below(REGISTRY_CLASSES + 1);
-    lists_remove(queues, entry);
-    if (cls < REGISTRY_CLASSES)
-        list_push_back(&queues->list[cls], entry);
-    lists_lay(queues, state->byte + QUEUES_AT);
+    spoil_lists(&plain_registry.queues, entry, state->byte + QUEUES_AT);
 }
 
-static void spoil_link(struct bytes *state)
+static void spoil_some_links(struct bytes *state)
 {
-    state->byte[QUEUES_AT + 2 + below(2 * (REGISTRY_CLASSES + REGISTRY_ENTRIES))] =
-        (uint8_t)number_near(REGISTRY_CLASSES + REGISTRY_ENTRIES);
+    spoil_links(state->byte + QUEUES_AT, REGISTRY_CLASSES + REGISTRY_ENTRIES);
 }
 
 static void spoil_all(struct bytes *state)
@@ -223,7 +216,8 @@ static void spoil_all(struct bytes *state)
 static void draw_bytes(struct bytes *state)
 {
     static void (*const ways[])(struct bytes *) = {
-        spoil_some_byte, spoil_some_place, swap_some_places, spoil_queues, spoil_link, spoil_all,
+        spoil_some_byte, spoil_some_place, swap_some_places,
+        spoil_queues,    spoil_some_links, spoil_all,
     };
     uint32_t n[MOST_NUMBERS] = {0};
     draw_slots(n);

@@ -127,6 +127,39 @@ void swap_places(struct bytes *state, size_t tree, size_t other)
     memcpy(b, kept, sizeof kept);
 }
 
+void spoil_lists(struct lists *lists, unsigned entry, uint8_t *bytes)
+{
+    unsigned cls = below(lists->classes + 1);
+    lists_remove(lists, entry);
+    if (cls < lists->classes)
+        list_push_back(&lists->list[cls], entry);
+    lists_lay(lists, bytes);
+}
+
+/* The links, next and prev of each node, come after the two sizes. */
+static void link_nodes(uint8_t *bytes, unsigned node, unsigned next)
+{
+    bytes[2 + 2 * node] = (uint8_t)next;
+    bytes[3 + 2 * next] = (uint8_t)node;
+}
+
+static void exchange_next(uint8_t *bytes, unsigned node, unsigned other)
+{
+    unsigned next = bytes[2 + 2 * node];
+    link_nodes(bytes, node, bytes[2 + 2 * other]);
+    link_nodes(bytes, other, next);
+}
+
+void spoil_links(uint8_t *bytes, unsigned nodes)
+{
+    unsigned near_classes = bytes[0] + 1u;
+    if (one_in(2))
+        bytes[2 + below(2 * nodes)] = (uint8_t)number_near(nodes);
+    else
+        exchange_next(bytes, below(one_in(2) ? near_classes : nodes),
+                      below(one_in(2) ? near_classes : nodes));
+}
+
 void spoil_tree(struct bytes *state, const uint16_t *places, unsigned count, uint32_t largest)
 {
     switch (below(4)) {

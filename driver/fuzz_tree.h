@@ -1,11 +1,13 @@
 /*
  * What the registries' kinds share: numbers drawn near those of a tree, whole trees,
- * near misses, sweeps. A tree is told by where it stands in the state.
+ * near misses of trees and of list queues, sweeps. A tree is told by where it stands
+ * in the state.
  */
 #ifndef FUZZ_TREE_H
 #define FUZZ_TREE_H
 
 #include "fuzz.h"
+#include "state_mcq.h"
 #include "state_tree.h"
 
 /* Some used place of a tree, or where the bytes are too few a place of zeros. */
@@ -38,6 +40,15 @@ void spoil_place(struct bytes *state, size_t tree, size_t other, uint32_t larges
 
 /* A place of a tree and one of the other, which may be the same, change their bytes. */
 void swap_places(struct bytes *state, size_t tree, size_t other);
+
+/* An entry moved to the back of another list or out of all, laid out over the bytes. */
+void spoil_lists(struct lists *lists, unsigned entry, uint8_t *bytes);
+
+/*
+ * A link of a whole list queue of so many nodes leads elsewhere, or two nodes exchange
+ * what follows them, so that all cycles close, and two are one or one is two.
+ */
+void spoil_links(uint8_t *bytes, unsigned nodes);
 
 /* One of these ways, or all bytes at random, for a state that begins with a tree. */
 void spoil_tree(struct bytes *state, const uint16_t *places, unsigned count, uint32_t largest);

@@ -52,10 +52,11 @@ uint32_t random_size(uint32_t most)
 static uint32_t known_limit(void)
 {
     static const uint32_t limits[] = {
-        0,     1,     2,     31,    32,          33,          127,         128,         221,
-        222,   223,   224,   225,   254,         255,         256,         257,         511,
-        512,   8190,  8191,  8192,  8193,        16383,       16384,       32767,       32768,
-        65534, 65535, 65536, 65537, 0x7fffffffu, 0x80000000u, 0xfffffffeu, 0xffffffffu,
+        0,     1,           2,           7,           8,           9,     31,    32,    33,
+        63,    64,          65,          127,         128,         221,   222,   223,   224,
+        225,   254,         255,         256,         257,         511,   512,   8190,  8191,
+        8192,  8193,        16383,       16384,       32767,       32768, 65534, 65535, 65536,
+        65537, 0x7fffffffu, 0x80000000u, 0xfffffffeu, 0xffffffffu,
     };
     return limits[below(sizeof limits / sizeof limits[0])];
 }

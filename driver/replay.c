@@ -25,6 +25,8 @@ static struct kind kinds[] = {
     {"reg", reg_verbs, {NULL, 0}},
     {"lb", lb_verbs, {NULL, 0}},
     {"req", req_verbs, {NULL, 0}},
+    {"txm", txm_verbs, {NULL, 0}},
+    {"txr", txr_verbs, {NULL, 0}},
     {"img", img_verbs, {NULL, 0}},
     {"mcq", mcq_verbs, {NULL, 0}},
     {"iq", iq_verbs, {NULL, 0}},
@@ -126,6 +128,23 @@ void print_entries(const char *name, const struct list *list)
 {
     printf(" %s=", name);
     print_list(list->entry, list->count);
+}
+
+void print_classes(const struct lists *lists, void (*print_name)(unsigned cls))
+{
+    const char *before = "";
+    printf("q=");
+    for (unsigned c = 0; c < lists->classes; c++) {
+        const struct list *list = &lists->list[c];
+        if (list->count == 0)
+            continue;
+        printf("%s", before);
+        print_name(c);
+        printf("=");
+        print_list(list->entry, list->count);
+        before = ";";
+    }
+    printf("%s", *before == '\0' ? "-" : "");
 }
 
 /* ------------------------------------------------------------------------ */

@@ -40,6 +40,8 @@ struct verb {
 extern const struct verb reg_verbs[];
 extern const struct verb lb_verbs[];
 extern const struct verb req_verbs[];
+extern const struct verb txm_verbs[];
+extern const struct verb txr_verbs[];
 extern const struct verb img_verbs[];
 extern const struct verb mcq_verbs[];
 extern const struct verb iq_verbs[];
@@ -65,5 +67,8 @@ void print_list(const uint8_t *numbers, unsigned count);
 
 /* Prints a blank, the name, = and the entries of a list. */
 void print_entries(const char *name, const struct list *list);
+
+/* Prints q= and the classes that hold entries, each by its name, or - if none does. */
+void print_classes(const struct lists *lists, void (*print_name)(unsigned cls));
 
 #endif

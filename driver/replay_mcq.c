@@ -8,22 +8,17 @@ static void run_open(struct state *state, const uint32_t *n)
     open_state(state, gomxeli_mcq_length(n[0], n[1]), mcq_open, n);
 }
 
-/* The classes that hold entries, and how many entries stand in none. */
-static void print_lists(const struct lists *lists)
+static void print_class(unsigned cls)
+{
+    printf("%u", cls);
+}
+
+static void print_lone(const struct lists *lists)
 {
     unsigned lone = lists->entries;
-    const char *before = "";
-    printf("q=");
-    for (unsigned c = 0; c < lists->classes; c++) {
-        const struct list *list = &lists->list[c];
-        if (list->count == 0)
-            continue;
-        printf("%s%u=", before, c);
-        print_list(list->entry, list->count);
-        lone -= list->count;
-        before = ";";
-    }
-    printf("%s lone=%u", *before == '\0' ? "-" : "", lone);
+    for (unsigned c = 0; c < lists->classes; c++)
+        lone -= lists->list[c].count;
+    printf(" lone=%u", lone);
 }
 
 /* A whole state has a class 0, so the call refuses only what is not whole. */
@@ -34,7 +29,8 @@ static void run_read_back(struct state *state, const uint32_t *n)
     if (print_refusal(gomxeli_mcq_is_empty(state->bytes, state->len, 0)))
         return;
     lists_read(state->bytes, &lists);
-    print_lists(&lists);
+    print_classes(&lists, print_class);
+    print_lone(&lists);
 }
 
 #define ANY ANY_NUMBER

@@ -14,6 +14,8 @@ bool whole_iq(const uint8_t *state, size_t len);
 bool whole_reg(const uint8_t *state, size_t len);
 bool whole_lb(const uint8_t *state, size_t len);
 bool whole_req(const uint8_t *state, size_t len);
+bool whole_txm(const uint8_t *state, size_t len);
+bool whole_txr(const uint8_t *state, size_t len);
 
 /* Whether bytes are a filter image. */
 bool whole_img(const uint8_t *image, size_t len);
@@ -51,6 +53,9 @@ unsigned times_in(const uint8_t *tree, unsigned entry);
 
 /* At most 128 entries, up to 127, with subjects up to the largest, which are in order. */
 bool whole_tree(const uint8_t *tree, unsigned largest);
+
+/* No two places have the same subject. */
+bool shares_no_subject(const uint8_t *tree);
 
 /* A walk points at an entry of the tree or at none. */
 bool whole_walk(const uint8_t *tree, unsigned walk);

@@ -19,10 +19,9 @@ static bool fits(const uint8_t *tree, unsigned largest)
 
 static bool is_ordered(const uint8_t *tree)
 {
-    for (unsigned i = 0; i < count_of(tree); i++)
-        for (unsigned j = i + 1; j < count_of(tree); j++)
-            if (subject_at(tree, i) > subject_at(tree, j))
-                return false;
+    for (unsigned i = 1; i < count_of(tree); i++)
+        if (subject_at(tree, i - 1) > subject_at(tree, i))
+            return false;
     return true;
 }
 
@@ -36,10 +35,6 @@ bool whole_walk(const uint8_t *tree, unsigned walk)
     return walk > 127 || times_in(tree, walk) > 0;
 }
 
-/* ------------------------------------------------------------------------ */
-/* States of one tree                                                       */
-/* ------------------------------------------------------------------------ */
-
 static bool has_each_entry_once(const uint8_t *tree)
 {
     for (unsigned i = 0; i < count_of(tree); i++)
@@ -48,6 +43,19 @@ static bool has_each_entry_once(const uint8_t *tree)
     return true;
 }
 
+bool shares_no_subject(const uint8_t *tree)
+{
+    for (unsigned i = 0; i < count_of(tree); i++)
+        for (unsigned j = i + 1; j < count_of(tree); j++)
+            if (subject_at(tree, i) == subject_at(tree, j))
+                return false;
+    return true;
+}
+
+/* ------------------------------------------------------------------------ */
+/* States of one tree                                                       */
+/* ------------------------------------------------------------------------ */
+
 /* The tree at 0, the walk at 385. */
 bool whole_lb(const uint8_t *state, size_t len)
 {
@@ -55,17 +63,8 @@ bool whole_lb(const uint8_t *state, size_t len)
            whole_walk(state, state[385]);
 }
 
-static bool shares_no_service(const uint8_t *tree)
-{
-    for (unsigned i = 0; i < count_of(tree); i++)
-        for (unsigned j = 0; j < count_of(tree); j++)
-            if (i != j && subject_at(tree, i) == subject_at(tree, j))
-                return false;
-    return true;
-}
-
 bool whole_req(const uint8_t *state, size_t len)
 {
     return len == 385 && whole_tree(state, 511) && has_each_entry_once(state) &&
-           shares_no_service(state);
+           shares_no_subject(state);
 }

@@ -1,7 +1,8 @@
 /*
- * gomxeli.h: registries and queues for a Cyphal/CAN node, over lent bytes. So far
- * regular and loop-back message reception, requests, the filter image, the lists,
- * the key queues, the identifiers, sets of priorities and the tail byte.
+ * gomxeli.h: the registries and queues of a Cyphal/CAN node, over lent bytes. The
+ * five registries are regular and loop-back message reception, requests, and
+ * message and response transmission; the rest is the filter image, the lists, the
+ * key queues, the identifiers, sets of priorities and the tail byte.
  *
  * The functions are written and proved in Rattle. `rt staticlib gomxeli` puts
  * them into target/staticlib/libgomxeli.a; a program includes this header and
@@ -68,9 +69,9 @@ extern "C" {
 typedef uint64_t gomxeli_answer;
 
 /*
- * The refusals of all kinds of state, also of those to come, in the order in which
- * a call looks for them, which is not that of their numbers. Opening a list or a
- * key queue looks for GOMXELI_SIZE first.
+ * The refusals of all kinds of state, in the order in which a call looks for them,
+ * which is not that of their numbers. Opening a list or a key queue looks for
+ * GOMXELI_SIZE first.
  */
 enum gomxeli_refusal {
     GOMXELI_ACCEPTED = 0,
@@ -115,7 +116,7 @@ static inline uint16_t gomxeli_first(gomxeli_answer answer)
     return (uint16_t)((answer >> 16) & 0xffffu);
 }
 
-/* A value, a range's last, whether more follow. */
+/* A value, a priority, a range's last, whether more follow. */
 static inline uint32_t gomxeli_second(gomxeli_answer answer)
 {
     return (uint32_t)(answer >> 32);
@@ -415,6 +416,224 @@ gomxeli_answer gomxeli_req_unregister(uint8_t *state, size_t len, uint32_t entry
  */
 gomxeli_answer gomxeli_req_poll_push(const uint8_t *state, size_t len, uint32_t service,
                                      uint8_t loop_back);
+
+/* ------------------------------------------------------------------------ */
+/* Message transmission                                                     */
+/* ------------------------------------------------------------------------ */
+
+/*
+ * Endpoints that send messages. An entry is a number from 0 to 127 that the caller
+ * chooses; registered, it has one subject, and no other entry has the same.
+ *
+ * The caller tells each entry's readiness, the set of the priorities (see below) of
+ * which it has frames to send. It comes with registering, with an update, and with
+ * a settlement. An entry with a readiness that is not empty stands in one queue,
+ * that of its most urgent ready priority: among the started ones, if it has sent
+ * part of a transfer of this priority, or else among the finished ones. An entry
+ * that comes into a queue goes to its back; one whose queue stays does not move.
+ *
+ * A pick asks which entry is to send the next frame: the front one of the most
+ * urgent priority of those in its mask, started before finished. The pick is then
+ * open, and every call but opening and settling is refused. The settlement closes
+ * it. It says what came of the pick: a frame, with its priority, its length and its
+ * last byte, or no frame; and the entry's readiness from now on. After the last
+ * frame of a transfer the entry goes to the back, after another frame it stays in
+ * front of those of its priority, so that it is picked again.
+ *
+ * A pick that finds nothing stores its mask, which is the wake mask from then on,
+ * and so does a settlement without frame. An entry that comes into a queue whose
+ * priority is in the wake mask wakes the task that picks.
+ *
+ *     static uint8_t tx[GOMXELI_TXM_LENGTH];
+ *
+ *     gomxeli_txm_open(tx, sizeof tx);
+ *     gomxeli_txm_register(tx, sizeof tx, 0, 100, 1 << 4);
+ *
+ *     // room for a frame of up to 8 bytes, of any priority
+ *     gomxeli_answer a = gomxeli_txm_pick(tx, sizeof tx, 0xff, 8);
+ *     if (gomxeli_number(a) == GOMXELI_ACCEPTED && gomxeli_what(a) == 1) {
+ *         uint16_t entry = gomxeli_first(a);       // entry 0
+ *         uint32_t priority = gomxeli_second(a);   // priority 4
+ *         uint8_t frame[8];
+ *         uint8_t length = next_frame(entry, priority, frame); // 0: it has none
+ *         gomxeli_txm_settle(tx, sizeof tx, length > 0, readiness_of(entry), priority,
+ *                            length, length > 0 ? frame[length - 1] : 0);
+ *     }
+ */
+#define GOMXELI_TXM_ENTRY_MAX 127
+
+/* The length of a state. */
+#define GOMXELI_TXM_LENGTH ((size_t)1062)
+
+/*
+ * Opens a state: no entries, no pick, an empty wake mask. Writes every byte and
+ * looks at none.
+ *
+ * GOMXELI_NOT_WHOLE  len is not GOMXELI_TXM_LENGTH
+ */
+gomxeli_answer gomxeli_txm_open(uint8_t *state, size_t len);
+
+/*
+ * Registers an entry on a subject, with no transfer started, and puts it at the back
+ * of its queue, if its readiness has one.
+ * what 1: wake the task that picks. what 0: no need.
+ *
+ * GOMXELI_NOT_WHOLE
+ * GOMXELI_ENTRY_RANGE  entry above 127
+ * GOMXELI_RANGE        subject above 8,191
+ * GOMXELI_PICK_OPEN    a pick is open
+ * GOMXELI_REGISTERED   the entry is registered already
+ * GOMXELI_OCCUPIED     the subject has an entry
+ */
+gomxeli_answer gomxeli_txm_register(uint8_t *state, size_t len, uint32_t entry, uint32_t subject,
+                                    uint8_t readiness);
+
+/*
+ * Removes an entry; its subject has none then.
+ *
+ * GOMXELI_NOT_WHOLE
+ * GOMXELI_ENTRY_RANGE     entry above 127
+ * GOMXELI_PICK_OPEN       a pick is open
+ * GOMXELI_NOT_REGISTERED  the entry is not registered
+ */
+gomxeli_answer gomxeli_txm_unregister(uint8_t *state, size_t len, uint32_t entry);
+
+/*
+ * A new readiness of an entry. It goes to the back of its queue if that is another
+ * one than before.
+ * what 1: wake the task that picks. what 0: no need.
+ *
+ * GOMXELI_NOT_WHOLE
+ * GOMXELI_ENTRY_RANGE     entry above 127
+ * GOMXELI_PICK_OPEN       a pick is open
+ * GOMXELI_NOT_REGISTERED  the entry is not registered
+ */
+gomxeli_answer gomxeli_txm_update(uint8_t *state, size_t len, uint32_t entry, uint8_t readiness);
+
+/*
+ * Picks the entry that is to send a frame of at most mtu bytes, with a priority of
+ * the mask.
+ * what 1: first is the entry, second the priority; the pick is open. what 0: nothing
+ * of the mask is ready; the mask is the wake mask now, unless it is empty.
+ *
+ * GOMXELI_NOT_WHOLE
+ * GOMXELI_RANGE      mtu other than 8 or 64
+ * GOMXELI_PICK_OPEN  a pick is open
+ */
+gomxeli_answer gomxeli_txm_pick(uint8_t *state, size_t len, uint8_t mask, uint32_t mtu);
+
+/*
+ * Settles the open pick: with a frame where frame is not 0, and else without one, and
+ * then priority, length and last are not looked at. last is the frame's last byte;
+ * its bit 6 says that the frame ends a transfer. readiness is the picked entry's. A
+ * settlement without frame makes the pick's mask the wake mask, after the entry has
+ * come to its queue.
+ * first is the entry that was picked. what 1: wake the task that picks. what 0: no
+ * need.
+ *
+ * GOMXELI_NOT_WHOLE
+ * GOMXELI_RANGE      a frame, priority above 7
+ * GOMXELI_NO_PICK    no pick is open
+ * GOMXELI_BAD_FRAME  a frame of length 0, of more than the pick's mtu, or of another
+ *                    priority than the picked one
+ */
+gomxeli_answer gomxeli_txm_settle(uint8_t *state, size_t len, uint8_t frame, uint8_t readiness,
+                                  uint32_t priority, uint32_t length, uint8_t last);
+
+/* ------------------------------------------------------------------------ */
+/* Response transmission                                                    */
+/* ------------------------------------------------------------------------ */
+
+/*
+ * Endpoints that send responses. An entry is a number from 0 to 127 that the caller
+ * chooses; registered, it has no address, since a response goes where its request
+ * came from. Readiness, queues, picks, settlements and the wake mask are as in
+ * message transmission.
+ *
+ *     static uint8_t tx[GOMXELI_TXR_LENGTH];
+ *
+ *     gomxeli_txr_open(tx, sizeof tx);
+ *     gomxeli_txr_register(tx, sizeof tx, 0, 0);
+ *
+ *     // nothing to send: wake for priorities 0 to 3
+ *     gomxeli_txr_pick(tx, sizeof tx, 0x0f, 64);
+ *
+ *     // entry 0 has a response
+ *     if (gomxeli_what(gomxeli_txr_update(tx, sizeof tx, 0, 1 << 3)) == 1)
+ *         wake();
+ */
+#define GOMXELI_TXR_ENTRY_MAX 127
+
+/* The length of a state. */
+#define GOMXELI_TXR_LENGTH ((size_t)677)
+
+/*
+ * Opens a state: no entries, no pick, an empty wake mask. Writes every byte and
+ * looks at none.
+ *
+ * GOMXELI_NOT_WHOLE  len is not GOMXELI_TXR_LENGTH
+ */
+gomxeli_answer gomxeli_txr_open(uint8_t *state, size_t len);
+
+/*
+ * Registers an entry, with no transfer started, and puts it at the back of its queue,
+ * if its readiness has one.
+ * what 1: wake the task that picks. what 0: no need.
+ *
+ * GOMXELI_NOT_WHOLE
+ * GOMXELI_ENTRY_RANGE  entry above 127
+ * GOMXELI_PICK_OPEN    a pick is open
+ * GOMXELI_REGISTERED   the entry is registered already
+ */
+gomxeli_answer gomxeli_txr_register(uint8_t *state, size_t len, uint32_t entry, uint8_t readiness);
+
+/*
+ * Removes an entry.
+ *
+ * GOMXELI_NOT_WHOLE
+ * GOMXELI_ENTRY_RANGE     entry above 127
+ * GOMXELI_PICK_OPEN       a pick is open
+ * GOMXELI_NOT_REGISTERED  the entry is not registered
+ */
+gomxeli_answer gomxeli_txr_unregister(uint8_t *state, size_t len, uint32_t entry);
+
+/*
+ * A new readiness of an entry. It goes to the back of its queue if that is another
+ * one than before.
+ * what 1: wake the task that picks. what 0: no need.
+ *
+ * GOMXELI_NOT_WHOLE
+ * GOMXELI_ENTRY_RANGE     entry above 127
+ * GOMXELI_PICK_OPEN       a pick is open
+ * GOMXELI_NOT_REGISTERED  the entry is not registered
+ */
+gomxeli_answer gomxeli_txr_update(uint8_t *state, size_t len, uint32_t entry, uint8_t readiness);
+
+/*
+ * Picks the entry that is to send a frame of at most mtu bytes, with a priority of
+ * the mask.
+ * what 1: first is the entry, second the priority; the pick is open. what 0: nothing
+ * of the mask is ready; the mask is the wake mask now, unless it is empty.
+ *
+ * GOMXELI_NOT_WHOLE
+ * GOMXELI_RANGE      mtu other than 8 or 64
+ * GOMXELI_PICK_OPEN  a pick is open
+ */
+gomxeli_answer gomxeli_txr_pick(uint8_t *state, size_t len, uint8_t mask, uint32_t mtu);
+
+/*
+ * Settles the open pick, as gomxeli_txm_settle does.
+ * first is the entry that was picked. what 1: wake the task that picks. what 0: no
+ * need.
+ *
+ * GOMXELI_NOT_WHOLE
+ * GOMXELI_RANGE      a frame, priority above 7
+ * GOMXELI_NO_PICK    no pick is open
+ * GOMXELI_BAD_FRAME  a frame of length 0, of more than the pick's mtu, or of another
+ *                    priority than the picked one
+ */
+gomxeli_answer gomxeli_txr_settle(uint8_t *state, size_t len, uint8_t frame, uint8_t readiness,
+                                  uint32_t priority, uint32_t length, uint8_t last);
 
 /* ------------------------------------------------------------------------ */
 /* Lists: MultiClassQueue                                                   */

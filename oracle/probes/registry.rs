@@ -4,6 +4,7 @@ include!("registry/unchanged.rs");
 pub mod probe {
     pub use super::rx_msg::probe::{LoopBack, Regular, Seen, State};
     pub use super::rx_req::probe::Requests;
+    pub use super::tx_queue::probe::{Asked, Report, TxKind, TxSeen, TxSide, TxState};
 
     use crate::buffer::{BufferToken, DynamicRxBuffer};
     use crate::core::{Priority, PrioritySet};
@@ -27,15 +28,31 @@ pub mod probe {
         pub walk: Option<u8>,
     }
 
-    /// Stands for an entry's buffer: a frame pushed to it leaves the entry's number in `pushed`.
-    pub(super) struct Buffer {
+    /// Stands for an entry's buffer. What is shared lies beside the buffers of a registry: what they
+    /// leave there and find there.
+    pub(super) trait Buffer {
+        type Shared: Default;
+
+        fn new(entry: u8, shared: *const Self::Shared) -> Self;
+    }
+
+    /// A frame pushed to it leaves the entry's number in the shared cell.
+    pub(super) struct RxBuffer {
         entry: u8,
         pushed: *const Cell<Option<u8>>,
     }
 
-    unsafe impl Send for Buffer {}
+    unsafe impl Send for RxBuffer {}
 
-    impl DynamicRxBuffer for Buffer {
+    impl Buffer for RxBuffer {
+        type Shared = Cell<Option<u8>>;
+
+        fn new(entry: u8, pushed: *const Self::Shared) -> Self {
+            Self { entry, pushed }
+        }
+    }
+
+    impl DynamicRxBuffer for RxBuffer {
         fn push_frame(&mut self, _frame: &Frame, _mtu: Mtu) {
             // Safety: the cell outlives the registry
             let before = unsafe { (*self.pushed).replace(Some(self.entry)) };
@@ -65,20 +82,20 @@ pub mod probe {
 
     /// Where entries lie while they are registered, with buffers and tokens; the entry's number is
     /// its place.
-    pub(super) struct Places<E, T> {
+    pub(super) struct Places<E, T, B: Buffer = RxBuffer> {
         entries: [MaybeUninit<E>; ENTRIES],
-        buffers: [MaybeUninit<Buffer>; ENTRIES],
+        buffers: [MaybeUninit<B>; ENTRIES],
         tokens: [Option<T>; ENTRIES],
-        pushed: Cell<Option<u8>>,
+        pub shared: B::Shared,
     }
 
-    impl<E, T> Places<E, T> {
+    impl<E, T, B: Buffer> Places<E, T, B> {
         pub fn new() -> Box<Self> {
             Box::new(Self {
                 entries: [const { MaybeUninit::uninit() }; ENTRIES],
                 buffers: [const { MaybeUninit::uninit() }; ENTRIES],
                 tokens: [const { None }; ENTRIES],
-                pushed: Cell::new(None),
+                shared: B::Shared::default(),
             })
         }
 
@@ -88,11 +105,10 @@ pub mod probe {
 
         /// The entry to be registered: made anew with its buffer, or as it is where it is registered
         /// already.
-        pub fn hand(&mut self, entry: u8, make: impl FnOnce(NonNull<Buffer>) -> E) -> NonNull<E> {
+        pub fn hand(&mut self, entry: u8, make: impl FnOnce(NonNull<B>) -> E) -> NonNull<E> {
             let at = usize::from(entry);
             if !self.is_registered(entry) {
-                let pushed = &raw const self.pushed;
-                let buffer = self.buffers[at].write(Buffer { entry, pushed });
+                let buffer = self.buffers[at].write(B::new(entry, &raw const self.shared));
                 self.entries[at].write(make(NonNull::from(buffer)));
             }
             NonNull::new(self.entries[at].as_mut_ptr()).expect("a place")
@@ -100,6 +116,12 @@ pub mod probe {
 
         pub fn keep(&mut self, entry: u8, token: T) {
             self.tokens[usize::from(entry)] = Some(token);
+        }
+
+        pub fn token(&mut self, entry: u8) -> &mut T {
+            self.tokens[usize::from(entry)]
+                .as_mut()
+                .expect("registered")
         }
 
         pub fn take(&mut self, entry: u8) -> T {
@@ -111,17 +133,20 @@ pub mod probe {
             unsafe { UnsafeRef::from_raw(self.entries[usize::from(entry)].as_ptr()) }
         }
 
-        pub fn number(&self, entry: *const E) -> u8 {
-            let first = self.entries.as_ptr().cast::<E>();
+        /// The entry that a pointer points at or into.
+        pub fn number<P>(&self, part: *const P) -> u8 {
             // Safety: every entry lies in its place
-            unsafe { entry.offset_from(first) as u8 }
+            let offset = unsafe { part.byte_offset_from(self.entries.as_ptr()) };
+            (offset as usize / size_of::<E>()) as u8
         }
+    }
 
+    impl<E, T> Places<E, T> {
         /// The entry that gets a frame while `push` runs, and what that answers.
         pub fn reached<U>(&self, push: impl FnOnce() -> U) -> (Option<u8>, U) {
-            self.pushed.set(None);
+            self.shared.set(None);
             let answer = push();
-            (self.pushed.take(), answer)
+            (self.shared.take(), answer)
         }
     }
 

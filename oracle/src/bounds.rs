@@ -1,13 +1,16 @@
 //! Sequences at the registries' limits. The regular registry's: all 128 entries inactive, active, on
 //! one subject or each on its own, as many marks as there can be, walks over all with removals under
-//! way, and the ends of the subjects. The others': what they have of these.
+//! way, and the ends of the subjects. The other receivers': what they have of these. The transmitters':
+//! all 128 entries in one queue, in all, and in none.
 
 use crate::pair::{Call, Size};
 use crate::registry::ALL;
 use crate::regular::{
     self, HUB_PUSH_NEXT, HUB_PUSH_START, OPEN, POLL_POP, REGISTER, UNREGISTER, call,
 };
-use crate::{loop_back, requests};
+use crate::transmit_calls::{self as tx, Transmit};
+use crate::{loop_back, requests, transmit};
+use emcyphal::marker::{Message, Response};
 
 const ENTRIES: u32 = 128;
 const ENDS: [u32; 4] = [0, 1, 8190, 8191];
@@ -22,6 +25,8 @@ pub fn sequences() -> Vec<(Size, Vec<Call>)> {
         sequences.push((loop_back::size::<ENTRIES, ALL>(0), looped_back));
         sequences.push((requests::size::<ENTRIES, ALL>(0), requests));
     }
+    sequences.extend(transmit_sequences::<Message>());
+    sequences.extend(transmit_sequences::<Response>());
     sequences
 }
 
@@ -33,7 +38,7 @@ fn loop_back_call(call: &Call) -> Option<Call> {
 
 /// Sixteen subjects make a service, and a walk is a frame.
 fn request_call(call: &Call) -> Option<Call> {
-    let [a, b, _] = call.args;
+    let [a, b, ..] = call.args;
     match call.op.code {
         OPEN => Some(requests::call(requests::OPEN, &[])),
         REGISTER => Some(requests::call(requests::REGISTER, &[a, b / 16])),
@@ -143,5 +148,73 @@ fn ends(first: u32, second: u32) -> Vec<Call> {
     calls.extend(walk(second, 1));
     calls.extend(removals([126, 124, 125, 123].into_iter()));
     calls.extend(polls(3));
+    calls
+}
+
+fn transmit_sequences<K: Transmit>() -> impl Iterator<Item = (Size, Vec<Call>)> {
+    let mut sequences: Vec<_> = [0, 4, 7].map(in_one_queue::<K>).to_vec();
+    sequences.push(in_all_queues::<K>());
+    let sized = |calls| (transmit::size::<K>(ENTRIES, ALL, 255, 0), calls);
+    sequences.into_iter().map(sized)
+}
+
+/// Every entry registered with a readiness, the highest subject first.
+fn all_registered<K: Transmit>(readiness: impl Fn(u32) -> u32) -> Vec<Call> {
+    let register = |entry| {
+        let subject = 8191 - 64 * entry;
+        tx::call::<K>(tx::REGISTER, &[entry, subject, readiness(entry)])
+    };
+    let mut calls = vec![tx::call::<K>(tx::OPEN, &[])];
+    calls.extend((0..ENTRIES).map(register));
+    calls
+}
+
+/// A pick and its settlement with a frame.
+fn turn<K: Transmit>(mask: u32, readiness: u32, priority: u32, last: u32) -> [Call; 2] {
+    [
+        tx::call::<K>(tx::PICK, &[mask, 64]),
+        tx::call::<K>(tx::SETTLE, &[1, readiness, priority, 64, last]),
+    ]
+}
+
+/// Each has its turn, and the first once more, which goes on; some are removed, at the front, at the
+/// back and between; all become empty, and ready again.
+fn in_one_queue<K: Transmit>(priority: u32) -> Vec<Call> {
+    let set = 1 << priority;
+    let turns = |count: u32, readiness, last| {
+        let turn = move |_| turn::<K>(255, readiness, priority, last);
+        (0..count).flat_map(turn)
+    };
+    let remove = |entry| tx::call::<K>(tx::UNREGISTER, &[entry]);
+    let update = |entry| tx::call::<K>(tx::UPDATE, &[entry, set]);
+    let mut calls = all_registered::<K>(|_| set);
+    calls.extend(turns(ENTRIES + 1, set, 64));
+    calls.extend(turns(3, set, 0));
+    calls.extend([0, 1, 2, 127, 64].map(remove));
+    calls.extend((0..ENTRIES).map(update));
+    calls.extend(turns(ENTRIES, 0, 64));
+    calls.extend((0..ENTRIES).rev().map(update));
+    calls.extend(turns(ENTRIES, 0, 0));
+    calls.extend((0..ENTRIES).map(update));
+    calls.extend(turns(ENTRIES, set, 64));
+    calls
+}
+
+/// Sixteen at each priority, of which half go on; all are emptied by single masks, the least urgent
+/// first, but fall to the next priority once.
+fn in_all_queues<K: Transmit>() -> Vec<Call> {
+    let mut calls = all_registered::<K>(|entry| 3 << (entry % 8) & 255);
+    for priority in 0..8 {
+        let set = 3 << priority & 255;
+        let last = |turn: u32| 64 * (turn % 2);
+        calls.extend((0..16).flat_map(|i| turn::<K>(1 << priority, set, priority, last(i))));
+    }
+    for priority in (0..8).rev() {
+        let next = 2 << priority & 255;
+        calls.extend((0..16).flat_map(|_| turn::<K>(1 << priority, next, priority, 64)));
+    }
+    for priority in 1..8 {
+        calls.extend((0..17).flat_map(|_| turn::<K>(254, 0, priority, 64)));
+    }
     calls
 }

@@ -4,12 +4,14 @@
 use crate::exports::{self, Answer};
 use crate::leaves::Leaves;
 use crate::one_tree::OneTree;
-use crate::pair::{Call, Lent, Size};
+use crate::pair::{Call, Lent, Op, Size};
 use crate::registry::THREE;
 use crate::regular::{self, HUB_PUSH_NEXT, HUB_PUSH_START, OPEN, POLL_POP, REGISTER, UNREGISTER};
 use crate::regular_bytes::LENGTH;
 use crate::tally::{Expected, Tally};
-use crate::{bounds, loop_back as lb, requests as req, runs, whole};
+use crate::transmit_calls::Transmit;
+use crate::{bounds, loop_back as lb, requests as req, runs, transmit, transmit_cases, whole};
+use emcyphal::marker::{Message, Response};
 use emcyphal::registry::probe::{LoopBack, Requests};
 
 /// A call by its code in the recorded list, and what document 01 answers.
@@ -213,9 +215,26 @@ const REQUEST_CASES: &[&[Row]] = &[&[
 
 pub fn run(tally: &mut Tally) -> Result<(), String> {
     let kinds = [
-        (regular::size::<4, 3, THREE>(0), CASES),
-        (lb::size::<3, THREE>(0), LOOP_BACK_CASES),
-        (req::size::<3, THREE>(0), REQUEST_CASES),
+        (
+            regular::size::<4, 3, THREE>(0),
+            with_calls(regular::OPS, CASES),
+        ),
+        (
+            lb::size::<3, THREE>(0),
+            with_calls(lb::OPS, LOOP_BACK_CASES),
+        ),
+        (
+            req::size::<3, THREE>(0),
+            with_calls(req::OPS, REQUEST_CASES),
+        ),
+        (
+            transmit::size::<Message>(3, THREE, 16, 0),
+            transmit_cases::cases::<Message>(),
+        ),
+        (
+            transmit::size::<Response>(3, THREE, 16, 0),
+            transmit_cases::cases::<Response>(),
+        ),
     ];
     for (size, cases) in kinds {
         cases
@@ -233,12 +252,22 @@ pub fn run(tally: &mut Tally) -> Result<(), String> {
     other_bytes(&mut leaves)
 }
 
-fn run_case(size: &Size, case: &[Row], tally: &mut Tally) -> Result<(), String> {
+/// Calls and what document 01 answers.
+type Case = Vec<(Call, Answer)>;
+
+fn with_calls(ops: &'static [Op], cases: &[&[Row]]) -> Vec<Case> {
+    let step = |&(code, args, answer): &Row| {
+        let op = ops.iter().find(|op| op.code == code);
+        (Call::new(op.expect("a code of this kind"), args), answer)
+    };
+    let case = |case: &&[Row]| case.iter().map(step).collect();
+    cases.iter().map(case).collect()
+}
+
+fn run_case(size: &Size, case: &Case, tally: &mut Tally) -> Result<(), String> {
     let mut pair = (size.open)(0);
     let mut calls = Vec::new();
-    for &(code, args, expected) in case {
-        let op = pair.ops().iter().find(|op| op.code == code);
-        let call = Call::new(op.expect("a code of this kind"), args);
+    for &(call, expected) in case {
         calls.push(call.to_string());
         let answer = runs::step(&mut *pair, call, tally)
             .map_err(|text| format!("{}: {text}", calls.join("; ")))?;
@@ -254,7 +283,13 @@ fn run_case(size: &Size, case: &[Row], tally: &mut Tally) -> Result<(), String> 
 
 /// Bytes of another length, and bytes at random, get 1 whatever the numbers are, and stay.
 fn other_bytes(leaves: &mut Leaves) -> Result<(), String> {
-    let own = [LENGTH, LoopBack::LENGTH, Requests::LENGTH];
+    let own = [
+        LENGTH,
+        LoopBack::LENGTH,
+        Requests::LENGTH,
+        Message::LENGTH,
+        Response::LENGTH,
+    ];
     let lengths = own.iter().flat_map(|own| [own - 1, *own, own + 1]);
     for length in lengths.chain([0, 1, 4, 1024]) {
         for number in [0, 1, 127, 128, 8191, 8192, 65_535, 65_536, u32::MAX] {
@@ -290,6 +325,7 @@ fn refused_calls(lent: &mut Lent, number: u32) -> Vec<(&'static str, Answer)> {
         ("req_unregister", req_unregister(lent, number)),
         ("req_poll_push", req_poll_push(lent, number, number as u8)),
     ];
+    answers.extend(refused_by_transmission(lent, number));
     let length = lent.len();
     if length != LENGTH {
         answers.push(("reg_open", reg_open(lent, number)));
@@ -300,5 +336,34 @@ fn refused_calls(lent: &mut Lent, number: u32) -> Vec<(&'static str, Answer)> {
     if length != Requests::LENGTH {
         answers.push(("req_open", req_open(lent)));
     }
+    if length != Message::LENGTH {
+        answers.push(("txm_open", txm_open(lent)));
+    }
+    if length != Response::LENGTH {
+        answers.push(("txr_open", txr_open(lent)));
+    }
     answers
+}
+
+fn refused_by_transmission(lent: &mut Lent, number: u32) -> [(&'static str, Answer); 10] {
+    use exports::*;
+    let byte = number as u8;
+    [
+        ("txm_register", txm_register(lent, number, number, byte)),
+        ("txm_unregister", txm_unregister(lent, number)),
+        ("txm_update", txm_update(lent, number, byte)),
+        ("txm_pick", txm_pick(lent, byte, number)),
+        (
+            "txm_settle",
+            txm_settle(lent, byte, byte, number, number, byte),
+        ),
+        ("txr_register", txr_register(lent, number, byte)),
+        ("txr_unregister", txr_unregister(lent, number)),
+        ("txr_update", txr_update(lent, number, byte)),
+        ("txr_pick", txr_pick(lent, byte, number)),
+        (
+            "txr_settle",
+            txr_settle(lent, byte, byte, number, number, byte),
+        ),
+    ]
 }

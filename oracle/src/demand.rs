@@ -39,7 +39,7 @@ impl Demand {
             return self.polled(answer);
         }
         self.updates = 0;
-        let [a, b, _] = call.args;
+        let [a, b, ..] = call.args;
         match call.op.code {
             OPEN => {
                 *self = Self::new();

@@ -165,6 +165,18 @@ exports! {
         req_open();
         req_register(entry: u32, service: u32);
         req_unregister(entry: u32);
+        txm_open();
+        txm_register(entry: u32, subject: u32, readiness: u8);
+        txm_unregister(entry: u32);
+        txm_update(entry: u32, readiness: u8);
+        txm_pick(mask: u8, mtu: u32);
+        txm_settle(frame: u8, readiness: u8, priority: u32, length: u32, last: u8);
+        txr_open();
+        txr_register(entry: u32, readiness: u8);
+        txr_unregister(entry: u32);
+        txr_update(entry: u32, readiness: u8);
+        txr_pick(mask: u8, mtu: u32);
+        txr_settle(frame: u8, readiness: u8, priority: u32, length: u32, last: u8);
         img_open();
         img_add_subject(subject: u32);
         img_remove_subject_range(first: u32, last: u32);

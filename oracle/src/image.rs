@@ -34,7 +34,7 @@ fn size<const LENGTH: usize>(share: u64) -> Size {
     Size {
         name: format!("img {LENGTH}"),
         share,
-        open: |soil| Box::new(Image::new(LENGTH, soil)),
+        open: Box::new(|soil| Box::new(Image::new(LENGTH, soil))),
     }
 }
 
@@ -84,7 +84,7 @@ impl Passing {
 
 /// A call that changed an image and, of the set that it left, whether the subjects at and beside its ends are in.
 pub fn recorded(change: Call, passing: &Passing) -> Vec<(Call, Answer)> {
-    let [a, b, _] = change.args;
+    let [a, b, ..] = change.args;
     let b = if change.op.code == ADD_SUBJECT { a } else { b };
     let mut asked = vec![a.saturating_sub(1), a, b, (b + 1).min(MOST_SUBJECT)];
     asked.dedup();
@@ -112,7 +112,7 @@ impl Image {
 
     /// What document 01 refuses: 3 before 4.
     fn refused(&self, call: Call) -> Option<Answer> {
-        let [a, b, _] = call.args;
+        let [a, b, ..] = call.args;
         let past = a > MOST_SUBJECT || b > MOST_SUBJECT;
         if past || call.op.code == REMOVE_SUBJECT_RANGE && a > b {
             Some(Answer::refused(3))
@@ -135,7 +135,7 @@ fn draw_subject(rng: &mut Rng) -> u32 {
 
 /// Makes the call on an image through its export.
 pub fn make(call: Call, image: &mut [u8]) -> Answer {
-    let [a, b, _] = call.args;
+    let [a, b, ..] = call.args;
     match call.op.code {
         OPEN => exports::img_open(image),
         ADD_SUBJECT => exports::img_add_subject(image, a),

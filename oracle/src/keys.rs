@@ -55,13 +55,13 @@ pub fn size<const K_MAX: usize, const N: usize>(share: u64) -> Size {
     Size {
         name: format!("iq {K_MAX} {N}"),
         share,
-        open: |soil| {
+        open: Box::new(|soil| {
             Box::new(Keys::<K_MAX, N> {
                 rust: IndexQueue::new(),
                 stored: [u32::MAX; N],
                 lent: Lent::new(length(K_MAX as u32, N as u32), soil),
             })
-        },
+        }),
     }
 }
 
@@ -181,7 +181,7 @@ impl<const K_MAX: usize, const N: usize> Pair for Keys<K_MAX, N> {
     }
 
     fn unasked(&self, call: Call) -> Option<Answer> {
-        let [a, b, _] = call.args;
+        let [a, b, ..] = call.args;
         match call.op.code {
             OPEN => opening_refused(&self.lent, a, b),
             GET | GET_MUT if self.handed_back(a as u16) => Some(Answer::DONE),
@@ -220,7 +220,7 @@ impl<const K_MAX: usize, const N: usize> Pair for Keys<K_MAX, N> {
     }
 
     fn make(&mut self, call: Call) -> Answer {
-        let [a, b, _] = call.args;
+        let [a, b, ..] = call.args;
         let key = a as u16;
         match call.op.code {
             OPEN => exports::iq_open(&mut self.lent, a, b),

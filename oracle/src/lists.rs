@@ -50,12 +50,12 @@ pub fn size<const C: usize, const E: usize>(share: u64) -> Size {
     Size {
         name: format!("mcq {C} {E}"),
         share,
-        open: |soil| {
+        open: Box::new(|soil| {
             Box::new(Lists::<C, E> {
                 rust: MultiClassQueue::new(),
                 lent: Lent::new(length(C as u32, E as u32), soil),
             })
-        },
+        }),
     }
 }
 
@@ -84,7 +84,7 @@ fn opening_refused(lent: &[u8], classes: u32, entries: u32) -> Option<Answer> {
 
 /// The class and the entry that a call names.
 fn named(call: Call) -> (Option<u32>, Option<u32>) {
-    let [a, b, _] = call.args;
+    let [a, b, ..] = call.args;
     match call.op.code {
         FRONT | BACK | IS_EMPTY => (Some(a), None),
         IS_FRONT | IS_BACK | REMOVE => (None, Some(a)),
@@ -103,7 +103,7 @@ pub fn draw_number(size: u32, rng: &mut Rng) -> u32 {
 
 /// An opening of this size, or one that is refused.
 pub fn draw_opening(own: Call, refused: impl Fn(u32, u32) -> bool, rng: &mut Rng) -> Call {
-    let [a, b, _] = own.args;
+    let [a, b, ..] = own.args;
     let x = rng.pick(&[0, a, a + 1, 33, 256 + a, 8192, u32::MAX]);
     let y = rng.pick(&[0, b, b + 1, 223, 225, 256 + b, u32::MAX]);
     if refused(x, y) {
@@ -186,7 +186,7 @@ impl<const C: usize, const E: usize> Pair for Lists<C, E> {
     }
 
     fn make(&mut self, call: Call) -> Answer {
-        let [a, b, _] = call.args;
+        let [a, b, ..] = call.args;
         match call.op.code {
             OPEN => exports::mcq_open(&mut self.lent, a, b),
             FRONT => exports::mcq_front(&self.lent, a),
@@ -226,6 +226,24 @@ pub fn lay_links(classes: usize, links: &[(u8, u8)], over: &mut [u8]) {
         over[2 + 2 * i] = next;
         over[3 + 2 * i] = prev;
     }
+}
+
+/// Next and prev of every node, each class with the entries that are given for it, from the front.
+pub fn links_of(
+    classes: usize,
+    entries: usize,
+    queued: impl Iterator<Item = (u8, u8)>,
+) -> Vec<(u8, u8)> {
+    let nodes = 0..(classes + entries) as u8;
+    let mut links: Vec<_> = nodes.map(|node| (node, node)).collect();
+    for (class, entry) in queued {
+        let node = classes as u8 + entry;
+        let last = links[usize::from(class)].1;
+        links[usize::from(last)].0 = node;
+        links[usize::from(node)] = (class, last);
+        links[usize::from(class)].1 = node;
+    }
+    links
 }
 
 pub fn read_links(bytes: &[u8]) -> Vec<(u8, u8)> {
@@ -297,6 +315,14 @@ impl Cycles {
             self.lone,
             self.faults()
         )
+    }
+
+    /// Class and entry, class by class, each from the front.
+    pub fn queued(&self) -> Vec<(u8, u8)> {
+        let of = |(class, list): (u8, &'_ Vec<u8>)| -> Vec<_> {
+            list.iter().map(|&entry| (class, entry)).collect()
+        };
+        (0..).zip(&self.lists).flat_map(of).collect()
     }
 
     /// Empty where every link stands as it must.

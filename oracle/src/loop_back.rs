@@ -53,7 +53,7 @@ impl OneTree for LoopBack {
     }
 
     fn put(&mut self, call: Call) -> Answer {
-        let [a, b, _] = call.args;
+        let [a, b, ..] = call.args;
         let answer = match call.op.code {
             REGISTER => registered(self.register(a as u8, b as u16)),
             UNREGISTER => {
@@ -69,7 +69,7 @@ impl OneTree for LoopBack {
     }
 
     fn make(call: Call, lent: &mut [u8]) -> Answer {
-        let [a, b, _] = call.args;
+        let [a, b, ..] = call.args;
         match call.op.code {
             OPEN => exports::lb_open(lent),
             REGISTER => exports::lb_register(lent, a, b),

@@ -20,6 +20,11 @@ mod requests;
 mod rng;
 mod runs;
 mod tally;
+mod transmit;
+mod transmit_bytes;
+mod transmit_calls;
+mod transmit_cases;
+mod transmit_draw;
 mod tree;
 mod vectors;
 mod whole;
@@ -33,13 +38,14 @@ use tally::Tally;
 
 const USAGE: &str = "\
 compare [--seed N] [--calls N | --seconds N] [--kinds K,..]
-    compares; K is leaves, vectors, cases, panics, mcq, iq, reg, lb, req, img (default: all); N random
-    calls in all (default 1700000), or as many as fit in N seconds, besides what is done over all inputs
+    compares; K is leaves, vectors, cases, panics, mcq, iq, reg, lb, req, txm, txr, img (default: all);
+    N random calls in all (default 2000000), or as many as fit in N seconds, besides what is done over
+    all inputs
 compare --panics        shows each sequence in which the Rust panics and ours does not
 compare --record DIR    writes DIR/stdin and DIR/stdout: calls, and the Rust's answers
 exit 0: no difference; 1: a difference, after the shortened calls that show it; 2: bad usage";
 
-const CALLS: u64 = 1_700_000;
+const CALLS: u64 = 2_000_000;
 
 /// How much is run at random.
 enum Amount {
@@ -116,6 +122,16 @@ const KINDS: &[Kind] = &[
         name: "req",
         sizes: requests::sizes,
         small: requests::small,
+    },
+    Kind {
+        name: "txm",
+        sizes: transmit::message_sizes,
+        small: transmit::small_messages,
+    },
+    Kind {
+        name: "txr",
+        sizes: transmit::response_sizes,
+        small: transmit::small_responses,
     },
     Kind {
         name: "img",

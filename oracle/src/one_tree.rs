@@ -4,7 +4,7 @@ use crate::exports::Answer;
 use crate::pair::{Call, Lent, Op, Pair, Role, Size};
 use crate::registry::{self, ALL, Draw, Pools, Range};
 use crate::rng::Rng;
-use crate::tree::{self, MOST_ENTRY};
+use crate::tree;
 use emcyphal::registry::probe::{Listed, Tree};
 
 /// A kind of such registries: the Rust's side of one, and its exports.
@@ -42,10 +42,10 @@ pub fn size<K: OneTree, const ENTRIES: u32, const POOL: usize>(share: u64) -> Si
             K::NUMBERS
         ),
         share,
-        open: |soil| {
+        open: Box::new(|soil| {
             let lent = Lent::new(K::LENGTH, soil);
             Box::new(Both::<K, ENTRIES, POOL>::of(&Tree::default(), lent))
-        },
+        }),
     }
 }
 
@@ -61,13 +61,8 @@ pub fn pair_of<K: OneTree>(lent: Lent) -> Option<Box<dyn Pair>> {
 /// By docs/STATES.md, a tree's size excepted.
 fn is_whole<K: OneTree>(state: &Tree) -> bool {
     let Tree { listed, walk } = state;
-    let is_in_range =
-        |&(entry, number): &Listed| entry <= MOST_ENTRY as u8 && u32::from(number) <= K::MOST;
-    let stands = |entry| listed.iter().filter(|pair| pair.0 == entry).count();
-    listed.iter().all(is_in_range)
-        && listed.iter().all(|pair| stands(pair.0) == 1)
-        && listed.is_sorted_by(|a, b| K::may_follow(a.1, b.1))
-        && walk.is_none_or(|entry| stands(entry) == 1)
+    tree::is_whole(listed, K::MOST, K::may_follow)
+        && walk.is_none_or(|walk| listed.iter().any(|pair| pair.0 == walk))
 }
 
 /// The state over the bytes before the call.

@@ -47,14 +47,30 @@ pub(crate) use ops;
 #[derive(Clone, Copy)]
 pub struct Call {
     pub op: &'static Op,
-    pub args: [u32; 3],
+    pub args: [u32; MOST_ARGS],
 }
+
+const MOST_ARGS: usize = 5;
 
 impl Call {
     pub fn new(op: &'static Op, args: &[u32]) -> Self {
-        let mut call = Self { op, args: [0; 3] };
+        let mut call = Self {
+            op,
+            args: [0; MOST_ARGS],
+        };
         call.args[..args.len()].copy_from_slice(args);
         call
+    }
+
+    /// The three numbers of its line in the recorded list: of five, the first two and the next two are
+    /// put together.
+    pub fn recorded(&self) -> [u32; 3] {
+        let [a, b, c, d, e] = self.args;
+        if self.op.args == MOST_ARGS {
+            [a << 8 | b, c << 16 | d, e]
+        } else {
+            [a, b, c]
+        }
     }
 }
 
@@ -204,6 +220,6 @@ pub struct Size {
     pub name: String,
     /// Its part of the random calls, against the other sizes' parts.
     pub share: u64,
-    /// Both sides, before their opening.
-    pub open: fn(soil: u64) -> Box<dyn Pair>,
+    /// Both sides, before their opening, from a soil for ours.
+    pub open: Box<dyn Fn(u64) -> Box<dyn Pair>>,
 }

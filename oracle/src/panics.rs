@@ -6,7 +6,9 @@ use crate::exports::{self, Answer};
 use crate::pair::{Call, Lent, Size};
 use crate::registry::THREE;
 use crate::tally::{Expected, Tally};
-use crate::{keys, lists, loop_back, regular, regular_bytes, requests};
+use crate::transmit_calls::{self as tx, Transmit};
+use crate::{keys, lists, loop_back, regular, regular_bytes, requests, transmit};
+use emcyphal::marker::{Message, Response};
 use emcyphal::registry::probe::{Regular, Requests, Tree};
 use emcyphal::utils::IndexQueue;
 use emcyphal::utils::probe::MultiClassQueue;
@@ -147,6 +149,25 @@ fn one_tree_cases() -> Vec<Case> {
     ]
 }
 
+/// An entry registered again; and frames that get 12: the Rust panics when the buffer has given them.
+fn transmit_cases<K: Transmit>(again: Answer) -> Vec<Case> {
+    let register = tx::call::<K>(tx::REGISTER, &[0, 0, 16]);
+    let pick = tx::call::<K>(tx::PICK, &[255, 8]);
+    let settle = |priority, length| tx::call::<K>(tx::SETTLE, &[1, 16, priority, length, 64]);
+    let case = |calls, rust, number| Case {
+        size: transmit::size::<K>(3, THREE, 16, 0),
+        calls,
+        rust,
+        ours: Answer::refused(number),
+        leaves: None,
+    };
+    let mut cases = vec![case(vec![register; 2], Some(again), 5)];
+    for wrong in [settle(5, 8), settle(4, 9), settle(4, 0)] {
+        cases.push(case(vec![register, pick, wrong], None, 12));
+    }
+    cases
+}
+
 /// An endpoint for requests that are looped back: none of our calls registers one.
 fn looped_back_request() -> Result<String, String> {
     let mut requests = Requests::of(&Tree::default());
@@ -233,6 +254,8 @@ pub fn run(print: bool, tally: &mut Tally) -> Result<(), String> {
         key_cases(),
         registry_cases(),
         one_tree_cases(),
+        transmit_cases::<Message>(Answer::refused(7)),
+        transmit_cases::<Response>(Answer::DONE),
     ];
     for case in cases.into_iter().flatten() {
         told(show(&case)?, case.calls[case.calls.len() - 1], case.ours);
@@ -252,7 +275,7 @@ pub fn run(print: bool, tally: &mut Tally) -> Result<(), String> {
 }
 
 fn show_size(case: &SizeCase) -> Result<String, String> {
-    let [a, b, _] = case.opening.args;
+    let [a, b, ..] = case.opening.args;
     let mut lent = Lent::new(case.length, 0);
     let ours = (case.open)(&mut lent, a, b);
     if ours != Answer::refused(case.number) || lent[..] != Lent::new(case.length, 0)[..] {

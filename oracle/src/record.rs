@@ -7,7 +7,8 @@ use crate::registry::{ALL, ENDS, NEAR, SOME, THREE};
 use crate::rng::Rng;
 use crate::runs::Mood;
 use crate::tally::Expected;
-use crate::{keys, leaves, lists, loop_back, regular, requests, runs};
+use crate::{keys, leaves, lists, loop_back, regular, requests, runs, transmit};
+use emcyphal::marker::{Message, Response};
 use std::path::Path;
 use std::{fs, io};
 
@@ -49,6 +50,14 @@ fn plan() -> Vec<(Size, usize, usize)> {
         (requests::size::<8, ENDS>(0), 1, 30),
         (requests::size::<128, SOME>(0), 1, 60),
         (requests::size::<128, ALL>(0), 1, 200),
+        (transmit::size::<Message>(3, THREE, 16, 0), 2, 60),
+        (transmit::size::<Message>(4, ENDS, 0b1000_0001, 0), 2, 100),
+        (transmit::size::<Message>(16, NEAR, 255, 0), 1, 200),
+        (transmit::size::<Message>(128, ALL, 255, 0), 1, 400),
+        (transmit::size::<Response>(3, ALL, 1, 0), 2, 60),
+        (transmit::size::<Response>(4, ALL, 0b0001_0010, 0), 2, 100),
+        (transmit::size::<Response>(16, ALL, 255, 0), 1, 200),
+        (transmit::size::<Response>(128, ALL, 255, 0), 1, 400),
     ]
 }
 
@@ -61,7 +70,7 @@ struct Lines {
 
 impl Lines {
     fn add(&mut self, call: Call, answer: Answer) {
-        let [a, b, c] = call.args;
+        let [a, b, c] = call.recorded();
         self.calls += &format!("{} {a} {b} {c}\n", call.op.code);
         self.answers += &format!("{}\n", answer.0);
         self.count += 1;

@@ -64,7 +64,7 @@ fn every_pair(firsts: &[u32], seconds: &[u32]) -> impl Iterator<Item = [u32; 2]>
 
 /// What document 01 refuses before the Rust is asked, opening and 9 excepted.
 pub fn refused(call: Call, most: u32, is_registered: impl Fn(u8) -> bool) -> Option<u8> {
-    let [a, b, _] = call.args;
+    let [a, b, ..] = call.args;
     match call.op.role {
         Role::Grow | Role::Shrink if a > MOST_ENTRY => Some(2),
         Role::Grow if b > most => Some(3),
@@ -141,12 +141,12 @@ impl Draw {
         entry
     }
 
-    fn free_entry(&self, rng: &mut Rng) -> u32 {
+    pub fn free_entry(&self, rng: &mut Rng) -> u32 {
         self.entry_that(false, rng)
     }
 
     /// Often the one that the walk points at, or an active one.
-    fn registered_entry(&self, rng: &mut Rng) -> u32 {
+    pub fn registered_entry(&self, rng: &mut Rng) -> u32 {
         match self.walk {
             Some(entry) if rng.one_in(4) => entry.into(),
             _ if !self.active.is_empty() && rng.one_in(2) => rng.pick(&self.active).0.into(),
@@ -155,7 +155,7 @@ impl Draw {
     }
 
     /// A subject or service, now and then one past the end.
-    fn number(&self, rng: &mut Rng) -> u32 {
+    pub fn number(&self, rng: &mut Rng) -> u32 {
         let Range { pool, most, .. } = self.range;
         if rng.one_in(40) {
             let past = [most + 1, most + 2, 2 * most + 1];

@@ -62,7 +62,7 @@ pub fn size<const SLOTS: u32, const ENTRIES: u32, const POOL: usize>(share: u64)
     Size {
         name: format!("reg {SLOTS}, entries {ENTRIES}, subjects {subjects}"),
         share,
-        open: |soil| {
+        open: Box::new(|soil| {
             Box::new(Registry::<SLOTS, ENTRIES, POOL> {
                 rust: Regular::new(0),
                 is_fresh: false,
@@ -70,7 +70,7 @@ pub fn size<const SLOTS: u32, const ENTRIES: u32, const POOL: usize>(share: u64)
                 demand: Demand::new(),
                 image: Lent::new(image::LENGTH, soil),
             })
-        },
+        }),
     }
 }
 
@@ -121,7 +121,7 @@ impl<const SLOTS: u32, const ENTRIES: u32, const POOL: usize> Registry<SLOTS, EN
     }
 
     fn put_to_rust(&mut self, call: Call) -> Answer {
-        let [a, b, _] = call.args;
+        let [a, b, ..] = call.args;
         match call.op.code {
             OPEN => self.rust = Regular::new(a as usize),
             REGISTER => return registered(self.rust.register(a as u8, b as u16)),
@@ -214,7 +214,7 @@ impl<const SLOTS: u32, const ENTRIES: u32, const POOL: usize> Pair
     }
 
     fn make(&mut self, call: Call) -> Answer {
-        let [a, b, _] = call.args;
+        let [a, b, ..] = call.args;
         match call.op.code {
             OPEN => exports::reg_open(&mut self.lent, a),
             REGISTER => exports::reg_register(&mut self.lent, a, b),

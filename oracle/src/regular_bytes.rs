@@ -1,6 +1,6 @@
 //! The regular registry's bytes, by docs/STATES.md: laid out from the Rust's fields, and read back.
 
-use crate::lists::{Cycles, lay_links, read_links};
+use crate::lists::{Cycles, lay_links, links_of, read_links};
 use crate::rng::Rng;
 use crate::tree::{self, ENTRIES};
 use emcyphal::registry::probe::{Listed, Seen, State};
@@ -17,7 +17,9 @@ const WALK_AT: usize = FLAG_AT + 1;
 pub fn lay(state: &State, over: &mut [u8]) {
     tree::lay(&listed(&state.active), &mut over[..TREE]);
     tree::lay(&listed(&state.inactive), &mut over[TREE..QUEUE_AT]);
-    let links = links(&[&state.clean_up, &state.activation]);
+    let clean_up = state.clean_up.iter().map(|&entry| (0, entry));
+    let activation = state.activation.iter().map(|&entry| (1, entry));
+    let links = links_of(CLASSES, ENTRIES, clean_up.chain(activation));
     lay_links(CLASSES, &links, &mut over[QUEUE_AT..SLOTS_AT]);
     over[SLOTS_AT..FLAG_AT].copy_from_slice(&(state.slots as u16).to_le_bytes());
     over[FLAG_AT] = match (state.last_gap, over[FLAG_AT]) {
@@ -29,26 +31,6 @@ pub fn lay(state: &State, over: &mut [u8]) {
 
 pub fn listed(pairs: &[Seen]) -> Vec<Listed> {
     pairs.iter().map(Seen::listed).collect()
-}
-
-/// Next and prev of every node, of classes with these entries.
-fn links(lists: &[&[u8]; CLASSES]) -> Vec<(u8, u8)> {
-    let mut links: Vec<_> = (0..(CLASSES + ENTRIES) as u8)
-        .map(|node| (node, node))
-        .collect();
-    for (class, list) in lists.iter().enumerate() {
-        let mut last = class;
-        for node in list
-            .iter()
-            .map(|&entry| CLASSES + usize::from(entry))
-            .chain([class])
-        {
-            links[last].0 = node as u8;
-            links[node].1 = last as u8;
-            last = node;
-        }
-    }
-    links
 }
 
 /// What the bytes mean, and what is wrong with them. A head is the first of its subject, a mark a place in the clean-up queue.

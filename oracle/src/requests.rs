@@ -58,7 +58,7 @@ impl OneTree for Requests {
     }
 
     fn put(&mut self, call: Call) -> Answer {
-        let [a, b, _] = call.args;
+        let [a, b, ..] = call.args;
         match call.op.code {
             REGISTER => registered(self.register(a as u8, b as u16, false)),
             UNREGISTER => {
@@ -71,7 +71,7 @@ impl OneTree for Requests {
     }
 
     fn make(call: Call, lent: &mut [u8]) -> Answer {
-        let [a, b, _] = call.args;
+        let [a, b, ..] = call.args;
         match call.op.code {
             OPEN => exports::req_open(lent),
             REGISTER => exports::req_register(lent, a, b),

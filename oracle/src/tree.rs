@@ -40,6 +40,16 @@ pub fn read(bytes: &[u8]) -> (Vec<Listed>, &'static str) {
     (places.map(pair).collect(), fault)
 }
 
+/// By docs/STATES.md, the size excepted.
+pub fn is_whole(listed: &[Listed], most: u32, may_follow: fn(u16, u16) -> bool) -> bool {
+    let is_in_range =
+        |&(entry, number): &Listed| u32::from(entry) <= MOST_ENTRY && u32::from(number) <= most;
+    let stands = |entry| listed.iter().filter(|pair| pair.0 == entry).count();
+    listed.iter().all(is_in_range)
+        && listed.iter().all(|pair| stands(pair.0) == 1)
+        && listed.is_sorted_by(|a, b| may_follow(a.1, b.1))
+}
+
 /// The walk over its byte before the call.
 pub fn lay_walk(walk: Option<u8>, over: &mut u8) {
     *over = match (walk, read_walk(*over)) {

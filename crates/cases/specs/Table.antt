@@ -6,11 +6,11 @@ use mathlib.Core.Bool.{Bool, true, false}
 use mathlib.Core.List.{List, [], _∷_, map}
 use mathlib.Core.Option.{Option, some}
 use lib.ListN.{replicate}
-use Rattle.state.specs.Lengths.{keysLength, regularLength, loopBackLength}
+use Rattle.state.specs.Lengths.{keysLength, regularLength, loopBackLength, responsesLength}
 use Rattle.entry_tree.specs.Walks.{firstOn}
 use Rattle.regular.specs.Bytes.{read}
 use Rattle.gomxeli.specs.Answers.{packed, flag}
-use Rattle.gomxeli.specs.Calls.{Call, IqOpen, IqInsert, IqGet, IqRemove, RegOpen, RegRegister, RegUnregister, RegPollPop, RegHubPushStart, RegHubPushNext, LbOpen, LbRegister, LbHubPushStart, LbHubPushNext, run, left}
+use Rattle.gomxeli.specs.Calls.{Call, IqOpen, IqInsert, IqGet, IqRemove, RegOpen, RegRegister, RegUnregister, RegPollPop, RegHubPushStart, RegHubPushNext, LbOpen, LbRegister, LbHubPushStart, LbHubPushNext, TxrOpen, TxrRegister, TxrPick, TxrSettle, run, left}
 
 -- what bytes tell: a regular registry's slot counter; the head of a subject, its first active entry
 pub data Told : Type 0 where
@@ -71,6 +71,13 @@ points = packed 0 1 0 0
 
 abbrev pub names : ℕ → Bool → ℕ
 names e more = packed 0 1 e (flag more)
+
+-- a pick names an entry and its priority; a settlement the entry, with a wake flag
+abbrev pub picks : ℕ → ℕ → ℕ
+picks e p = packed 0 1 e p
+
+abbrev pub settles : ℕ → Bool → ℕ
+settles e b = packed 0 (flag b) e 0
 
 -- ---- the table
 
@@ -137,6 +144,20 @@ table =
       length = loopBackLength;
       calls = LbOpen ∷ LbRegister 0 100 ∷ LbRegister 1 200 ∷ LbHubPushStart 100 ∷ LbHubPushNext ∷ LbHubPushNext ∷ LbHubPushStart 150 ∷ LbHubPushNext ∷ [];
       answers = plain ∷ plain ∷ plain ∷ points ∷ names 0 true ∷ names 1 false ∷ plain ∷ plain ∷ [];
+      told = [];
+    }
+    -- transmit 0, 1 ready at 4: pick 0, last frame, still ready, pick 1
+    ∷ record {
+      length = responsesLength;
+      calls = TxrOpen ∷ TxrRegister 0 16 ∷ TxrRegister 1 16 ∷ TxrPick 255 8 ∷ TxrSettle 1 16 4 8 64 ∷ TxrPick 255 8 ∷ [];
+      answers = plain ∷ wake false ∷ wake false ∷ picks 0 4 ∷ settles 0 false ∷ picks 1 4 ∷ [];
+      told = [];
+    }
+    -- the same with a frame that is not last: pick 0 again
+    ∷ record {
+      length = responsesLength;
+      calls = TxrOpen ∷ TxrRegister 0 16 ∷ TxrRegister 1 16 ∷ TxrPick 255 8 ∷ TxrSettle 1 16 4 8 0 ∷ TxrPick 255 8 ∷ [];
+      answers = plain ∷ wake false ∷ wake false ∷ picks 0 4 ∷ settles 0 false ∷ picks 0 4 ∷ [];
       told = [];
     }
     -- key 3 value 7, then key 3 value 9: 7 comes back, 9 is not kept; remove 3: 16

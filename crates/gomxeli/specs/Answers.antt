@@ -26,6 +26,8 @@ use Rattle.loop_back.specs.declared.Answer as loop-back
 use Rattle.loop_back.specs.declared.Answer.the-variants as loop-back-says
 use Rattle.rx_req.specs.declared.Answer as request
 use Rattle.rx_req.specs.declared.Answer.the-variants as request-says
+use Rattle.tx_queue.specs.declared.Answer as transmit
+use Rattle.tx_queue.specs.declared.Answer.the-variants as transmit-says
 use Rattle.filter_image.specs.declared.Answer as image
 use Rattle.filter_image.specs.declared.Answer.the-variants as image-says
 use Rattle.index_queue.specs.declared.Answer as key
@@ -81,6 +83,15 @@ requestAnswer (request-says.Refused n) = packed n 0 0 0
 requestAnswer request-says.Done = packed 0 0 0 0
 requestAnswer (request-says.Pushed e) = packed 0 1 e 0
 requestAnswer request-says.NotPushed = packed 0 0 0 0
+
+-- a transmit registry's answer: what 1 is a wake, or an entry picked, whose priority is second
+abbrev pub transmitAnswer : transmit.Answer → ℕ
+transmitAnswer (transmit-says.Refused n) = packed n 0 0 0
+transmitAnswer transmit-says.Done = packed 0 0 0 0
+transmitAnswer (transmit-says.Accepted b) = packed 0 (flag b) 0 0
+transmitAnswer (transmit-says.Picked e p) = packed 0 1 e p
+transmitAnswer transmit-says.Nothing = packed 0 0 0 0
+transmitAnswer (transmit-says.Settled e b) = packed 0 (flag b) e 0
 
 -- the filter image's answer
 abbrev pub imageAnswer : image.Answer → ℕ

@@ -14,7 +14,12 @@ use Rattle.loop_back.specs.Steps as lbSteps
 use Rattle.loop_back.specs.Calls as lb
 use Rattle.rx_req.specs.Steps as reqSteps
 use Rattle.rx_req.specs.Calls as req
-use Rattle.gomxeli.specs.Answers.{listAnswer, keyAnswer, regularAnswer, loopBackAnswer, requestAnswer}
+use Rattle.tx_queue.specs.Steps as txrSteps
+use Rattle.tx_queue.specs.Steps.{reported}
+use Rattle.tx_queue.specs.Calls as txr
+use Rattle.tx_msg.specs.Steps as txmSteps
+use Rattle.tx_msg.specs.Calls as txm
+use Rattle.gomxeli.specs.Answers.{listAnswer, keyAnswer, regularAnswer, loopBackAnswer, requestAnswer, transmitAnswer}
 
 pub record Outcome : Type 0 where
   pub answer : ℕ
@@ -43,6 +48,11 @@ pub data Call : Type 0 where
   ReqOpen : Call
   ReqUnregister : ℕ → Call
   ReqRegister ReqPollPush : ℕ → ℕ → Call
+  TxmOpen TxrOpen : Call
+  TxmUnregister TxrUnregister : ℕ → Call
+  TxmRegister : ℕ → ℕ → ℕ → Call
+  TxrRegister TxmUpdate TxrUpdate TxmPick TxrPick : ℕ → ℕ → Call
+  TxmSettle TxrSettle : ℕ → ℕ → ℕ → ℕ → ℕ → Call
 
 -- each as its own contract has it
 abbrev pub does : Call → List ℕ → Outcome
@@ -81,6 +91,18 @@ does ReqOpen b = changes requestAnswer req.openedBytes b (req.opening (length b)
 does (ReqRegister e x) b = changes requestAnswer req.bytes b (req.on (reqSteps.register e x) b)
 does (ReqUnregister e) b = changes requestAnswer req.bytes b (req.on (reqSteps.unregister e) b)
 does (ReqPollPush x loopBack) b = asks requestAnswer b (req.on (reqSteps.pollPush x (not (eqb loopBack 0))) b)
+does TxmOpen b = changes transmitAnswer txm.openedBytes b (txm.opening (length b))
+does (TxmRegister e x r) b = changes transmitAnswer txm.bytes b (txm.on (txmSteps.register e x r) b)
+does (TxmUnregister e) b = changes transmitAnswer txm.bytes b (txm.on (txmSteps.unregister e) b)
+does (TxmUpdate e r) b = changes transmitAnswer txm.bytes b (txm.on (txmSteps.update e r) b)
+does (TxmPick mask mtu) b = changes transmitAnswer txm.bytes b (txm.on (txmSteps.pick mask mtu) b)
+does (TxmSettle frame r p n last) b = changes transmitAnswer txm.bytes b (txm.on (txmSteps.settle (reported (not (eqb frame 0)) p n last) r) b)
+does TxrOpen b = changes transmitAnswer txr.openedBytes b (txr.opening (length b))
+does (TxrRegister e r) b = changes transmitAnswer txr.bytes b (txr.on (txrSteps.register e r) b)
+does (TxrUnregister e) b = changes transmitAnswer txr.bytes b (txr.on (txrSteps.unregister e) b)
+does (TxrUpdate e r) b = changes transmitAnswer txr.bytes b (txr.on (txrSteps.update e r) b)
+does (TxrPick mask mtu) b = changes transmitAnswer txr.bytes b (txr.on (txrSteps.pick mask mtu) b)
+does (TxrSettle frame r p n last) b = changes transmitAnswer txr.bytes b (txr.on (txrSteps.settle (reported (not (eqb frame 0)) p n last) r) b)
 
 -- the answers of calls one after the other, and the bytes that they leave
 unfoldable pub run : List Call → List ℕ → List ℕ

@@ -1,6 +1,6 @@
 // Answers as one number each, laid out as specs/Answers.antt has it.
 ghost use mathlib.Core.Path.{_≡_};
-ghost use Rattle.gomxeli.specs.Answers.{packed, flag, listAnswer, keyAnswer, regularAnswer, loopBackAnswer, requestAnswer, imageAnswer, priorityAnswer, subjectAnswer, serviceAnswer, nodeAnswer, transferAnswer, eotAnswer};
+ghost use Rattle.gomxeli.specs.Answers.{packed, flag, listAnswer, keyAnswer, regularAnswer, loopBackAnswer, requestAnswer, transmitAnswer, imageAnswer, priorityAnswer, subjectAnswer, serviceAnswer, nodeAnswer, transferAnswer, eotAnswer};
 use emcyphal_core::MaybeNodeId;
 use emcyphal_core::MaybePriority;
 use emcyphal_core::MaybeServiceId;
@@ -95,6 +95,19 @@ pub fn request_answer(a: rx_req::Answer) -> u64
         rx_req::Answer::Done => pack(0, 0, 0, 0),
         rx_req::Answer::Pushed(e) => pack(0, 1, e as u16, 0),
         rx_req::Answer::NotPushed => pack(0, 0, 0, 0),
+    }
+}
+
+pub fn transmit_answer(a: tx_queue::Answer) -> u64
+    ensures { λ r. ⌜ r ≡ transmitAnswer a ⌝ }
+{
+    match a {
+        tx_queue::Answer::Refused(n) => pack(n, 0, 0, 0),
+        tx_queue::Answer::Done => pack(0, 0, 0, 0),
+        tx_queue::Answer::Accepted(b) => holds(b),
+        tx_queue::Answer::Picked(e, p) => pack(0, 1, e as u16, p as u32),
+        tx_queue::Answer::Nothing => pack(0, 0, 0, 0),
+        tx_queue::Answer::Settled(e, b) => pack(0, b as u8, e as u16, 0),
     }
 }
 

@@ -7,3 +7,5 @@ pub mod leaves;
 pub mod mcq;
 pub mod reg;
 pub mod req;
+pub mod txm;
+pub mod txr;

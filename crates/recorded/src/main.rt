@@ -7,6 +7,8 @@ use gomxeli::leaves;
 use gomxeli::mcq;
 use gomxeli::reg;
 use gomxeli::req;
+use gomxeli::txm;
+use gomxeli::txr;
 ghost use mathlib.Core.Path.{_≡_};
 ghost use Prim.Native.Nat.{_≤_};
 ghost use lib.ListN.{length};
@@ -146,6 +148,43 @@ fn requests_call(s: &mut [u8], op: u64, a: u32, b: u32) -> u64 {
     }
 }
 
+// A settlement's frame flag and readiness are one number, and so are its priority and length.
+fn messages_call(s: &mut [u8], op: u64, a: u32, b: u32, c: u32) -> u64 {
+    match op {
+        100 => txm::gomxeli_txm_open(s),
+        101 => txm::gomxeli_txm_register(s, a, b, (c % 256) as u8),
+        102 => txm::gomxeli_txm_unregister(s, a),
+        103 => txm::gomxeli_txm_update(s, a, (b % 256) as u8),
+        104 => txm::gomxeli_txm_pick(s, (a % 256) as u8, b),
+        _ => txm::gomxeli_txm_settle(
+            s,
+            (a / 256 % 256) as u8,
+            (a % 256) as u8,
+            b / 65536,
+            b % 65536,
+            (c % 256) as u8,
+        ),
+    }
+}
+
+fn responses_call(s: &mut [u8], op: u64, a: u32, b: u32, c: u32) -> u64 {
+    match op {
+        110 => txr::gomxeli_txr_open(s),
+        111 => txr::gomxeli_txr_register(s, a, (b % 256) as u8),
+        112 => txr::gomxeli_txr_unregister(s, a),
+        113 => txr::gomxeli_txr_update(s, a, (b % 256) as u8),
+        114 => txr::gomxeli_txr_pick(s, (a % 256) as u8, b),
+        _ => txr::gomxeli_txr_settle(
+            s,
+            (a / 256 % 256) as u8,
+            (a % 256) as u8,
+            b / 65536,
+            b % 65536,
+            (c % 256) as u8,
+        ),
+    }
+}
+
 // The last of `n` frame bytes is `last`.
 fn frame_call(n: u32, last: u32) -> u64 {
     let k = (n % 65) as usize;
@@ -182,9 +221,9 @@ fn write_answer(answer: u64) {
 }
 
 // The states, one after the other: a list queue (514 bytes at most), a key queue (9,979 at most), the regular registry, the image,
-// the loop-back registry, the requests.
-fn answer_of(states: &mut [u8], line: Line, a: u32, b: u32) -> u64
-    requires { ⌜ length (now states) ≡ 13327 ⌝ }
+// the loop-back registry, the requests, the two registries of transmission.
+fn answer_of(states: &mut [u8], line: Line, a: u32, b: u32, c: u32) -> u64
+    requires { ⌜ length (now states) ≡ 15066 ⌝ }
 {
     match line.op / 10 {
         1 => on_lists(&mut states[0..514], line.lists, line.op, a, b),
@@ -194,27 +233,30 @@ fn answer_of(states: &mut [u8], line: Line, a: u32, b: u32) -> u64
         6 => registry_call(&mut states[10493..11529], line.op, a, b),
         7 => image_call(&mut states[11529..12553], line.op, a, b),
         8 => loop_back_call(&mut states[12553..12942], line.op, a, b),
-        _ => requests_call(&mut states[12942..13327], line.op, a, b),
+        9 => requests_call(&mut states[12942..13327], line.op, a, b),
+        10 => messages_call(&mut states[13327..14389], line.op, a, b, c),
+        _ => responses_call(&mut states[14389..15066], line.op, a, b, c),
     }
 }
 
 // Makes the line's call and writes its answer; the next line begins.
 fn answered(line: Line, states: &mut [u8]) -> Line
-    requires { ⌜ length (now states) ≡ 13327 ⌝ }
+    requires { ⌜ length (now states) ≡ 15066 ⌝ }
 {
     let a = low32(line.a);
     let b = low32(line.b);
+    let c = low32(line.c);
     let out = with_lengths(line);
     let mut sized = line;
     sized.lists = out.lists;
     sized.keys = out.keys;
-    write_answer(answer_of(states, sized, a, b));
+    write_answer(answer_of(states, sized, a, b, c));
     out
 }
 
 // One more byte of the input.
 fn fed(b: u8, line: Line, states: &mut [u8]) -> Line
-    requires { ⌜ length (now states) ≡ 13327 ⌝ }
+    requires { ⌜ length (now states) ≡ 15066 ⌝ }
 {
     if b == 10 {
         return answered(line, states);
@@ -229,7 +271,7 @@ fn fed(b: u8, line: Line, states: &mut [u8]) -> Line
 }
 
 fn fed_all(chunk: &[u8], line: Line, states: &mut [u8]) -> Line
-    requires { ⌜ length (now states) ≡ 13327 ⌝ }
+    requires { ⌜ length (now states) ≡ 15066 ⌝ }
 {
     let mut out = line;
     let mut i = 0;
@@ -242,7 +284,7 @@ fn fed_all(chunk: &[u8], line: Line, states: &mut [u8]) -> Line
 
 // A proved loop has to end, and nothing says that the input does: the turns count down from a number that no run uses up.
 fn main() {
-    let mut states = [0u8; 13327];
+    let mut states = [0u8; 15066];
     let mut chunk = [0u8; 4096];
     let mut line = started(0, 0);
     let mut turns = u64::MAX;

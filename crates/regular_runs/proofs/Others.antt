@@ -1,13 +1,13 @@
 -- Calls of the other kinds leave the bytes of a regular registry: none of them has their length.
 use Prim.Native.Nat.{ℕ}
 use mathlib.Core.Path.{_≡_, refl, sym, subst, _∙_}
-use mathlib.Core.Bool.{Bool, true, false, _&&_}
+use mathlib.Core.Bool.{Bool, true, false, not, _&&_}
 use mathlib.Core.List.{List}
 use native.Mathlib.Omega.{arith}
 use lib.Dec.{eqb}
 use lib.ListN.{length}
 use borrow.Author.Tests.{eqb-true}
-use Rattle.state.specs.Lengths.{Regular, Lists, Keys, Has, regular, lists, keys, listsAllowed, listsLength, keysAllowed, keysLength, regularLength, loopBackLength, requestsLength}
+use Rattle.state.specs.Lengths.{Regular, Lists, Keys, Has, regular, lists, keys, listsAllowed, listsLength, keysAllowed, keysLength, regularLength, loopBackLength, requestsLength, messagesLength, responsesLength}
 use Rattle.state.specs.Result.{Result}
 use Rattle.state.proofs.Tests.{by-cond, false-of, and-l, and-r}
 use Rattle.state.proofs.Calls.{not-whole}
@@ -36,7 +36,18 @@ use Rattle.rx_req.specs.Steps as reqSteps
 use Rattle.rx_req.specs.Calls as req
 use Rattle.rx_req.specs.declared.Answer as request
 use Rattle.rx_req.specs.declared.Answer.the-variants as request-says
-use Rattle.gomxeli.specs.Calls.{Call, does, McqFront, McqBack, McqIsEmpty, McqIsFront, McqIsBack, McqRemove, McqOpen, McqMoveFront, McqMoveBack, IqFront, IqBack, IqContains, IqGet, IqRemove, IqEnqueueFront, IqEnqueueBack, IqDequeue, IqOpen, IqGetMut, IqInsert, RegOpen, RegUnregister, RegHubPushStart, RegRegister, RegPollPop, RegHubPushNext, LbOpen, LbHubPushNext, LbUnregister, LbHubPushStart, LbRegister, ReqOpen, ReqUnregister, ReqRegister, ReqPollPush}
+use Rattle.tx_queue.specs.TxQueue as responses
+use Rattle.tx_queue.specs.Bytes as txrBytes
+use Rattle.tx_queue.specs.Steps as txrSteps
+use Rattle.tx_queue.specs.Steps.{reported}
+use Rattle.tx_queue.specs.Calls as txr
+use Rattle.tx_queue.specs.declared.Answer as transmit
+use Rattle.tx_queue.specs.declared.Answer.the-variants as transmit-says
+use Rattle.tx_msg.specs.Registry as messages
+use Rattle.tx_msg.specs.Bytes as txmBytes
+use Rattle.tx_msg.specs.Steps as txmSteps
+use Rattle.tx_msg.specs.Calls as txm
+use Rattle.gomxeli.specs.Calls.{Call, does, McqFront, McqBack, McqIsEmpty, McqIsFront, McqIsBack, McqRemove, McqOpen, McqMoveFront, McqMoveBack, IqFront, IqBack, IqContains, IqGet, IqRemove, IqEnqueueFront, IqEnqueueBack, IqDequeue, IqOpen, IqGetMut, IqInsert, RegOpen, RegUnregister, RegHubPushStart, RegRegister, RegPollPop, RegHubPushNext, LbOpen, LbHubPushNext, LbUnregister, LbHubPushStart, LbRegister, ReqOpen, ReqUnregister, ReqRegister, ReqPollPush, TxmOpen, TxrOpen, TxmUnregister, TxrUnregister, TxmRegister, TxrRegister, TxmUpdate, TxrUpdate, TxmPick, TxrPick, TxmSettle, TxrSettle}
 use Rattle.regular_runs.specs.Runs.{part, other}
 
 lists-no : (c e : ℕ) → listsAllowed c e ≡ true → regularLength ≡ listsLength c e → ⊥
@@ -118,6 +129,28 @@ module _ (b : List ℕ) (l : length b ≡ regularLength) where
   unfolding req.opening
   request-open = by-cond (λ (r : Result request.Answer requests.Registry). req.openedBytes b r ≡ b) (eqb (length b) requestsLength) (λ q. absurd (omega (arith, l, eqb-true (length b) requestsLength q))) (λ q. refl)
 
+  not-messages : txmBytes.wholeB b ≡ false
+  unfolding txmBytes.wholeB
+  not-messages = not-long (length b) messagesLength _ (λ q. omega (arith, l, q))
+
+  not-responses : txrBytes.wholeB b ≡ false
+  unfolding txrBytes.wholeB
+  not-responses = not-long (length b) responsesLength _ (λ q. omega (arith, l, q))
+
+  message-call : (f : messages.Registry → Result transmit.Answer messages.Registry) → txm.bytes b (txm.on f b) ≡ b
+  message-call f = sym (not-whole txmBytes.wholeB txmBytes.read txmBytes.laid (transmit-says.Refused 1) f b not-messages .1)
+
+  response-call : (f : responses.TxQueue → Result transmit.Answer responses.TxQueue) → txr.bytes b (txr.on f b) ≡ b
+  response-call f = sym (not-whole txrBytes.wholeB txrBytes.read txrBytes.laid (transmit-says.Refused 1) f b not-responses .1)
+
+  message-open : txm.openedBytes b (txm.opening (length b)) ≡ b
+  unfolding txm.opening
+  message-open = by-cond (λ (r : Result transmit.Answer messages.Registry). txm.openedBytes b r ≡ b) (eqb (length b) messagesLength) (λ q. absurd (omega (arith, l, eqb-true (length b) messagesLength q))) (λ q. refl)
+
+  response-open : txr.openedBytes b (txr.opening (length b)) ≡ b
+  unfolding txr.opening
+  response-open = by-cond (λ (r : Result transmit.Answer responses.TxQueue). txr.openedBytes b r ≡ b) (eqb (length b) responsesLength) (λ q. absurd (omega (arith, l, eqb-true (length b) responsesLength q))) (λ q. refl)
+
 -- a call on the bytes b: one that leaves them and is nothing to the registry, or one of the registry's own
 pub data On (b : List ℕ) : Call → Type 0 where
   leaves : (c : Call) → part c ≡ other → (does c b) .bytes ≡ b → On b c
@@ -164,3 +197,15 @@ on ReqOpen b l = leaves ReqOpen refl (request-open b l)
 on (ReqUnregister e) b l = leaves (ReqUnregister e) refl (request-call b l (reqSteps.unregister e))
 on (ReqRegister e x) b l = leaves (ReqRegister e x) refl (request-call b l (reqSteps.register e x))
 on (ReqPollPush x f) b l = leaves (ReqPollPush x f) refl refl
+on TxmOpen b l = leaves TxmOpen refl (message-open b l)
+on TxrOpen b l = leaves TxrOpen refl (response-open b l)
+on (TxmUnregister e) b l = leaves (TxmUnregister e) refl (message-call b l (txmSteps.unregister e))
+on (TxrUnregister e) b l = leaves (TxrUnregister e) refl (response-call b l (txrSteps.unregister e))
+on (TxmRegister e x r) b l = leaves (TxmRegister e x r) refl (message-call b l (txmSteps.register e x r))
+on (TxrRegister e r) b l = leaves (TxrRegister e r) refl (response-call b l (txrSteps.register e r))
+on (TxmUpdate e r) b l = leaves (TxmUpdate e r) refl (message-call b l (txmSteps.update e r))
+on (TxrUpdate e r) b l = leaves (TxrUpdate e r) refl (response-call b l (txrSteps.update e r))
+on (TxmPick mask mtu) b l = leaves (TxmPick mask mtu) refl (message-call b l (txmSteps.pick mask mtu))
+on (TxrPick mask mtu) b l = leaves (TxrPick mask mtu) refl (response-call b l (txrSteps.pick mask mtu))
+on (TxmSettle frame r p n last) b l = leaves (TxmSettle frame r p n last) refl (message-call b l (txmSteps.settle (reported (not (eqb frame 0)) p n last) r))
+on (TxrSettle frame r p n last) b l = leaves (TxrSettle frame r p n last) refl (response-call b l (txrSteps.settle (reported (not (eqb frame 0)) p n last) r))

@@ -9,7 +9,7 @@ use Rattle.state.specs.Lengths.{regularLength, imageLength}
 use Rattle.entry_tree.specs.Pairs.{pair, hasSubject}
 use Rattle.regular_fair.specs.Moves.{Registered, lists, joined, taken, activated}
 use Rattle.filter_image.specs.Image as image
-use Rattle.gomxeli.specs.Calls.{Call, does, McqFront, McqBack, McqIsEmpty, McqIsFront, McqIsBack, McqRemove, McqOpen, McqMoveFront, McqMoveBack, IqFront, IqBack, IqContains, IqGet, IqRemove, IqEnqueueFront, IqEnqueueBack, IqDequeue, IqOpen, IqGetMut, IqInsert, RegOpen, RegUnregister, RegHubPushStart, RegRegister, RegPollPop, RegHubPushNext, LbOpen, LbHubPushNext, LbUnregister, LbHubPushStart, LbRegister, ReqOpen, ReqUnregister, ReqRegister, ReqPollPush}
+use Rattle.gomxeli.specs.Calls.{Call, does, McqFront, McqBack, McqIsEmpty, McqIsFront, McqIsBack, McqRemove, McqOpen, McqMoveFront, McqMoveBack, IqFront, IqBack, IqContains, IqGet, IqRemove, IqEnqueueFront, IqEnqueueBack, IqDequeue, IqOpen, IqGetMut, IqInsert, RegOpen, RegUnregister, RegHubPushStart, RegRegister, RegPollPop, RegHubPushNext, LbOpen, LbHubPushNext, LbUnregister, LbHubPushStart, LbRegister, ReqOpen, ReqUnregister, ReqRegister, ReqPollPush, TxmOpen, TxrOpen, TxmUnregister, TxrUnregister, TxmRegister, TxrRegister, TxmUpdate, TxrUpdate, TxmPick, TxrPick, TxmSettle, TxrSettle}
 
 -- ---- an answer's fields, as specs/Answers.antt of the exports packs them
 
@@ -81,6 +81,18 @@ part ReqOpen = other
 part (ReqUnregister e) = other
 part (ReqRegister e x) = other
 part (ReqPollPush x f) = other
+part TxmOpen = other
+part TxrOpen = other
+part (TxmUnregister e) = other
+part (TxrUnregister e) = other
+part (TxmRegister e x r) = other
+part (TxrRegister e r) = other
+part (TxmUpdate e r) = other
+part (TxrUpdate e r) = other
+part (TxmPick mask mtu) = other
+part (TxrPick mask mtu) = other
+part (TxmSettle frame r p n last) = other
+part (TxrSettle frame r p n last) = other
 
 -- ---- document 01's *waiting* and *active*, moved by a call and its answer alone
 

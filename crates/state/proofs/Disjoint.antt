@@ -7,16 +7,16 @@ use mathlib.Core.Bool.{Bool, true, cond, _&&_}
 use native.Mathlib.Omega.{arith}
 use lib.Dec.{leb, eqb}
 use borrow.Author.Tests.{leb-true, ne-eqb, eq-eqb}
-use Rattle.state.specs.Lengths.{Kind, Regular, LoopBack, Requests, Messages, Responses, Lists, Keys, Has, regular, loop-back, requests, messages, responses, lists, keys, Disjoint, listsAllowed, listsLength, keysAllowed, keysLength, imageLength}
+use Rattle.state.specs.Lengths.{Kind, Regular, LoopBack, Requests, Messages, Responses, Lists, Keys, Has, regular, loop-back, requests, messages, responses, lists, keys, Disjoint, listsAllowed, listsLength, keysAllowed, keysLength, regularLength, loopBackLength, requestsLength, messagesLength, responsesLength, imageLength}
 use Rattle.state.proofs.Tests.{and-l, and-r}
 
 unfoldable kindOf : ℕ → Kind
 kindOf n =
-    cond (eqb n 1036) Regular
-    (cond (eqb n 389) LoopBack
-    (cond (eqb n 385) Requests
-    (cond (eqb n 805) Messages
-    (cond (eqb n 677) Responses
+    cond (eqb n regularLength) Regular
+    (cond (eqb n loopBackLength) LoopBack
+    (cond (eqb n requestsLength) Requests
+    (cond (eqb n messagesLength) Messages
+    (cond (eqb n responsesLength) Responses
     (cond (eqb (n % 4) 3) Keys Lists)))))
 
 lists-most : (c e : ℕ) → listsAllowed c e ≡ true → listsLength c e ≤ 514
@@ -26,9 +26,9 @@ lists-most c e h =
     let b = leb-true e 224 (and-r (leb c 32) (leb e 224) r) in
     omega arith
 
-other : (n : ℕ) → n ≢ 1036 → n ≢ 389 → n ≢ 385 → n ≢ 805 → n ≢ 677 → kindOf n ≡ cond (eqb (n % 4) 3) Keys Lists
+other : (n : ℕ) → n ≢ regularLength → n ≢ loopBackLength → n ≢ requestsLength → n ≢ messagesLength → n ≢ responsesLength → kindOf n ≡ cond (eqb (n % 4) 3) Keys Lists
 unfolding kindOf
-other n a b c d e = rw (ne-eqb n 1036 a, ne-eqb n 389 b, ne-eqb n 385 c, ne-eqb n 805 d, ne-eqb n 677 e)
+other n a b c d e = rw (ne-eqb n regularLength a, ne-eqb n loopBackLength b, ne-eqb n requestsLength c, ne-eqb n messagesLength d, ne-eqb n responsesLength e)
 
 kind-of : (k : Kind) (n : ℕ) → Has k n → kindOf n ≡ k
 unfolding kindOf

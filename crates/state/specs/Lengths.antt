@@ -29,7 +29,7 @@ abbrev pub requestsLength : ℕ
 requestsLength = 385
 
 abbrev pub messagesLength : ℕ
-messagesLength = 805
+messagesLength = 1062
 
 abbrev pub responsesLength : ℕ
 responsesLength = 677

@@ -1,6 +1,8 @@
 //! Stands for the root of the crate `emcyphal`: names its unchanged files as modules, and supplies
 //! the data that they take from files which are not at hand.
 #![allow(dead_code, unused_imports)]
+// The probes let out what the crate keeps to itself.
+#![allow(private_bounds, private_interfaces)]
 
 // First, since its macros hold in all that follows.
 mod fmt;

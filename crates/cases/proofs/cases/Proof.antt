@@ -17,6 +17,11 @@ use Rattle.loop_back.specs.Registry.{wholeB as wholeLoop}
 use Rattle.loop_back.specs.Bytes.{wholeB as wholeLoopBack, laid as laidLoopBack}
 use Rattle.loop_back.specs.Steps.{register as registerLoopBack, hubPushStart as startLoopBack, hubPushNext as nextLoopBack}
 use Rattle.loop_back.specs.Calls.{opening as openingLoopBack}
+use Rattle.emcyphal_core.specs.Sets.{bits, firstIn}
+use Rattle.tx_queue.specs.TxQueue.{firstFrom, wholeB as wholeQueue}
+use Rattle.tx_queue.specs.Bytes.{sizesB as sizesQueue, wholeB as wholeResponses, laid as laidResponses}
+use Rattle.tx_queue.specs.Steps.{register as registerResponse, pick as pickResponse, settle as settleResponse}
+use Rattle.tx_queue.specs.Calls.{opening as openingResponses}
 use Rattle.gomxeli.specs.Answers.{packed}
 use Rattle.gomxeli.specs.Calls.{run, left}
 use Rattle.cases.specs.Table.{table}
@@ -24,7 +29,7 @@ use Rattle.cases.proofs.cases.Statement.{statement}
 use Rattle.cases.proofs.cases.Tie as tie
 
 returns : tie.Need-returns
-unfolding allB someB each count without trace traceEnd listOf listsOf linkedAt listSizes wholeList path arcs after before twos laidOut find sizesB listsB wholeB words longs laid get insert remove opening readTree places laidTree wholeRegistry sizesRegular wholeRegular laidRegular register unregister steps pollPop hubPushStart hubPushNext openingRegular wholeLoop wholeLoopBack laidLoopBack registerLoopBack startLoopBack nextLoopBack openingLoopBack packed run left table
+unfolding allB someB each count without trace traceEnd listOf listsOf linkedAt listSizes wholeList path arcs after before twos laidOut find sizesB listsB wholeB words longs laid get insert remove opening readTree places laidTree wholeRegistry sizesRegular wholeRegular laidRegular register unregister steps pollPop hubPushStart hubPushNext openingRegular wholeLoop wholeLoopBack laidLoopBack registerLoopBack startLoopBack nextLoopBack openingLoopBack bits firstIn firstFrom wholeQueue sizesQueue wholeResponses laidResponses registerResponse pickResponse settleResponse openingResponses packed run left table
 returns c = record { all = refl }
 
 pub cases-spec : {M : Type 1} → statement M

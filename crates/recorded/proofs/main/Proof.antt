@@ -7,7 +7,7 @@ use Rattle.recorded.proofs.main.Statement.{statement}
 use Rattle.recorded.proofs.main.Tie as tie
 
 abbrev Inv-loop : tie.InvT-loop
-Inv-loop states₀ chunk₀ line₀ turns₀ states chunk line turns = (length states ≡ 13327) × (length chunk ≡ 4096)
+Inv-loop states₀ chunk₀ line₀ turns₀ states chunk line turns = (length states ≡ 15066) × (length chunk ≡ 4096)
 
 abbrev μ-loop : tie.MeasureT-loop
 μ-loop states₀ chunk₀ line₀ turns₀ states chunk line turns = turns

@@ -1,0 +1,39 @@
+-- What the inner functions answer and store, as the code goes. No contract of a public call cites this.
+use Prim.Native.Nat.{ℕ, _+_, _/_}
+use mathlib.Core.List.{List, _++_}
+use mathlib.Core.Option.{none}
+use mathlib.Core.Bool.{Bool, cond, not, _||_}
+use lib.Dec.{eqb, ltb}
+use lib.ListN.{getD, set, drop}
+use Rattle.state.specs.Result.{Result, done}
+use Rattle.multi_cycle_list.specs.Laid as lists
+use Rattle.emcyphal_core.specs.Sets.{without}
+use Rattle.tx_queue.specs.TxQueue.{TxQueue, place, setsOf}
+use Rattle.tx_queue.specs.Steps.{becomes, sets, wakes, picked, startedOf, inserted, settles}
+use Rattle.tx_queue.specs.declared.Answer.{Answer}
+use Rattle.tx_queue.specs.declared.Answer.the-variants.{Settled}
+
+-- the queues are these
+abbrev pub withQueues : List ℕ → List (List ℕ) → List ℕ
+withQueues s qs = lists.laid (record { entries = 128; rows = qs }) ++ drop 290 s
+
+-- the entry e is registered, with the sets given
+abbrev pub withSets : List ℕ → ℕ → ℕ → ℕ → List ℕ
+withSets s e ready started =
+    let t = set (set s (290 + e) ready) (418 + e) started in
+    set t (546 + e) (cond (eqb (getD s (546 + e) 0) 0) 1 (getD s (546 + e) 0))
+
+-- the entry that a pick of the queue k named, and its started set
+abbrev pub framed : Bool → ℕ → ℕ → TxQueue → Result Answer TxQueue
+framed eot r k m =
+    let e = picked k m in
+    let t = startedOf (setsOf m e) in
+    cond eot
+    (done (Settled e (wakes 16 (place (sets r (without t (k / 2)))) (m .mask))) (becomes e 16 (sets r (without t (k / 2))) m))
+    (done (Settled e (wakes k (place (sets r (inserted t (k / 2)))) (m .mask))) (becomes e k (sets r (inserted t (k / 2))) m))
+
+abbrev pub unframed : ℕ → ℕ → ℕ → TxQueue → Result Answer TxQueue
+unframed r k mask m = settles none r (picked k m) k (startedOf (setsOf m (picked k m))) mask m
+
+abbrev pub fitsPick : ℕ → ℕ → ℕ → ℕ → Bool
+fitsPick mtu k priority length = not (eqb length 0 || (ltb mtu length || not (eqb priority (k / 2))))

@@ -1,0 +1,4 @@
+pub mod Seats
+pub mod Keeping
+pub mod Reading
+pub mod Mean

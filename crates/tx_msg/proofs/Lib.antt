@@ -1,0 +1,5 @@
+pub mod Parts
+pub mod Facts
+pub mod Keeping
+pub mod Mean
+pub mod Calls

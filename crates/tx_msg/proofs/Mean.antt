@@ -1,0 +1,133 @@
+-- Whatever is fair is laid out as whole bytes, which mean it; so the theorem of specs/Means.antt.
+use Prim.Native.Nat.{ℕ}
+use mathlib.Core.Path.{_≡_, refl, sym, ap, _∙_, subst}
+use mathlib.Core.List.{List}
+use mathlib.Core.Option.{Option, none}
+use mathlib.Core.Bool.{Bool, true, false, cond}
+use native.Mathlib.Omega.{arith}
+use lib.Dec.{eqb}
+use lib.ListN.{length, replicate, length-replicate, getD-replicate}
+use borrow.Author.Tests.{eqb-true}
+use Rattle.state.specs.Lengths.{messagesLength}
+use Rattle.state.specs.Result.{refuse, done, Bytes}
+use Rattle.state.proofs.Bytes.{bytes-part, bytes-append}
+use Rattle.state.proofs.Calls.{Kept, kept}
+use Rattle.state.proofs.Filled.{zero-bytes}
+use Rattle.entry_tree.specs.Places as tree
+use Rattle.entry_tree.proofs.Laid as trees
+use Rattle.tx_queue.specs.TxQueue.{Sets}
+use Rattle.tx_queue.specs.Bytes as queue
+use Rattle.tx_queue.specs.Steps.{isRegistered}
+use Rattle.tx_queue.specs.declared.Answer.{Answer}
+use Rattle.tx_queue.specs.declared.Answer.the-variants.{Refused, Done}
+use Rattle.tx_queue.proofs.Reading.{conditions}
+use Rattle.tx_fair.proofs.Reading as queues
+use Rattle.tx_fair.proofs.Mean as queueMean
+use Rattle.tx_msg.specs.Registry as registry
+use Rattle.tx_msg.specs.Registry.{Registry, fresh}
+use Rattle.tx_msg.specs.Bytes.{treePart, queuePart, wholeB, read, laid}
+use Rattle.tx_msg.specs.Steps.{Call, step}
+use Rattle.tx_msg.specs.Calls.{opening, on}
+use Rattle.tx_msg.specs.Means.{Fair, Sized, MessagesMeans}
+use Rattle.tx_msg.proofs.Parts.{Joined, tree-is, queue-is, long, split, laid-joined, laid-from}
+use Rattle.tx_msg.proofs.Facts.{Facts, facts-of, of-facts, at-most, whole-of, of-whole}
+use Rattle.tx_msg.proofs.Keeping.{step-fair}
+
+-- ---- whole bytes mean something fair, and are the bytes of what they mean
+
+module _ (b : List ℕ) (y : Bytes b) (h : wholeB b ≡ true) where
+  pub read-fair : Fair (read b)
+  read-fair = let w = whole-of b h in record { whole = w .means; queue = queues.read-fair (queuePart b) (bytes-part 385 677 b y) (w .queue) }
+
+  pub tree-self : treePart b ≡ tree.laid (read b .subjects) (treePart b)
+  tree-self = let w = whole-of b h in sym (trees.laid-read (treePart b) (split b (w .long) .long-t) (w .size) (bytes-part 0 385 b y))
+
+  pub laid-read : laid (read b) b ≡ b
+  laid-read = let w = whole-of b h in sym (laid-from (read b) b (split b (w .long)) tree-self (sym (queues.laid-read (queuePart b) (bytes-part 385 677 b y) (w .queue))))
+
+-- ---- what is laid reads back
+
+module _ (m : Registry) (b : List ℕ) (y : Bytes b) (f : Fair m) (l : length b ≡ messagesLength) where
+  w : Facts m
+  w = facts-of m (f .whole)
+
+  T : List ℕ
+  T = tree.laid (m .subjects) (treePart b)
+
+  Q : List ℕ
+  Q = queue.laid (m .queue) (queuePart b)
+
+  j : Joined (laid m b) T Q
+  unfolding T Q
+  j = laid-joined m b l (at-most m w) (conditions (m .queue) (w .queue) .queues)
+
+  s : Joined b (treePart b) (queuePart b)
+  s = split b l
+
+  q-bytes : Bytes (queuePart b)
+  q-bytes = bytes-part 385 677 b y
+
+  pub read-laid : read (laid m b) ≡ m
+  unfolding T Q
+  read-laid =
+      let t : tree.read (treePart (laid m b)) ≡ m .subjects = ap tree.read (tree-is (laid m b) T Q j) ∙ trees.read-laid (treePart b) (s .long-t) (m .subjects) (at-most m w) in
+      let q : queue.read (queuePart (laid m b)) ≡ m .queue = ap (λ (z : List ℕ). queue.read z) (queue-is (laid m b) T Q j) ∙ queueMean.read-laid (m .queue) (queuePart b) q-bytes (f .queue) (s .long-q) in
+      λ k. record { subjects = t k; queue = q k }
+
+  pub laid-whole : wholeB (laid m b) ≡ true
+  unfolding T Q
+  laid-whole = of-whole (laid m b) (record {
+    long = long (laid m b) T Q j;
+    size = omega (arith, ap tree.size (tree-is (laid m b) T Q j), trees.size-laid (treePart b) (s .long-t) (m .subjects) (at-most m w), at-most m w);
+    queue = ap queue.wholeB (queue-is (laid m b) T Q j) ∙ queueMean.laid-whole (m .queue) (queuePart b) q-bytes (f .queue) (s .long-q);
+    means = ap registry.wholeB read-laid ∙ f .whole;
+  })
+
+  pub laid-bytes : Bytes (laid m b)
+  unfolding T Q
+  laid-bytes = subst Bytes (sym (j .is)) (bytes-append T Q
+      (trees.bytes-laid (treePart b) (s .long-t) (m .subjects) (at-most m w) 8191 (bytes-part 0 385 b y) (omega arith) (w .range))
+      (queueMean.laid-bytes (m .queue) (queuePart b) q-bytes (f .queue) (s .long-q)))
+
+-- ---- opening
+
+fresh-fair : Fair fresh
+fresh-fair = record {
+  whole = of-facts fresh (record { queue = queueMean.fresh-fair .whole; range = refl; once = λ e. omega arith; rises = refl; named = λ e l. ap isRegistered (getD-replicate {A = Option Sets} 128 e none none l) });
+  queue = queueMean.fresh-fair;
+}
+
+open-inv : (p : Bool) (a : Answer) (m : Registry) → cond p (done Done fresh) (refuse (Refused 1)) ≡ done a m → (p ≡ true) × (fresh ≡ m)
+open-inv true a m h = (refl, cc)
+open-inv false a m h = absurd (let z : _≡_ {A = ℕ} 0 1 = cc in omega arith)
+
+opened : (b : ℕ) (a : Answer) (m : Registry) → opening b ≡ done a m → wholeB (laid m (replicate b 0)) ≡ true
+unfolding opening
+opened b a m h =
+    let i = open-inv (eqb b messagesLength) a m h in
+    subst (λ (x : Registry). wholeB (laid x (replicate b 0)) ≡ true) (i .1)
+    (laid-whole fresh (replicate b 0) (zero-bytes b) fresh-fair (length-replicate {A = ℕ} b 0 ∙ eqb-true b messagesLength (i .0)))
+
+-- ---- the theorem
+
+keeps-all : (k : Call) (b : List ℕ) → Bytes b → wholeB b ≡ true → Kept wholeB read laid b (on (step k) b) (step k (read b))
+keeps-all k b y h = kept wholeB read laid (Refused 1) Fair Sized laid-bytes laid-whole read-laid (step k) b y h (step-fair k (read b) (read-fair b y h)) (whole-of b h .long)
+
+pub means : MessagesMeans
+means =
+    record {
+      opened = opened;
+      meaning = record {
+        whole-fair = read-fair;
+        whole-sized = λ b h. whole-of b h .long;
+        laid-read = laid-read;
+        laid-bytes = laid-bytes;
+        laid-whole = laid-whole;
+        read-laid = read-laid;
+        step-fair = step-fair;
+        step-sized = λ k m n f z. z;
+        keeps-bytes = λ k b y h. keeps-all k b y h .are-bytes;
+        keeps-whole = λ k b y h. keeps-all k b y h .are-whole;
+        keeps-meaning = λ k b y h. keeps-all k b y h .meaning;
+      };
+    }

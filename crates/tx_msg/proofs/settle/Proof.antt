@@ -1,0 +1,56 @@
+use borrow.Author.Needs.{needs}
+use mathlib.Core.Path.{refl, sym, _∙_}
+use native.Mathlib.Omega.{arith}
+use Rattle.state.proofs.Calls.{not-whole}
+use Rattle.entry_tree.proofs.Reading.{bytes-of}
+use Rattle.tx_queue.specs.Bytes as queue
+use Rattle.tx_queue.specs.Steps as steps
+use Rattle.tx_queue.specs.Steps.{reported}
+use Rattle.tx_queue.specs.declared.Answer.the-variants.{Refused}
+use Rattle.tx_msg.specs.Bytes.{queuePart, wholeB, read, laid}
+use Rattle.tx_msg.specs.Steps.{settle}
+use Rattle.tx_msg.proofs.Facts.{whole-of}
+use Rattle.tx_msg.proofs.Calls.{over-queue}
+use Rattle.tx_msg.proofs.settle.Statement.{statement}
+use Rattle.tx_msg.proofs.settle.Tie as tie
+
+whole-requires : tie.Need-whole-requires
+whole-requires c κs = search needs
+
+same-length : tie.Need-same-length
+same-length c = search needs
+
+returns : tie.Need-returns
+returns c = not-whole wholeB read laid (Refused 1) (settle (reported (c .before .before .before .before .args .frame) (c .before .before .before .before .args .priority) (c .before .before .before .before .args .length) (c .before .before .before .before .args .last)) (c .before .before .before .before .args .readiness)) (c .before .before .before .before .args .s .now) (sym (c .before .whole .ensures) ∙ c .if1 .left)
+
+sub-settle : tie.Need-sub-settle
+sub-settle c = search needs
+
+part-settle-start : tie.Need-part-settle-start
+part-settle-start c = search needs
+
+part-settle-end : tie.Need-part-settle-end
+part-settle-end c = omega (arith, whole-of (c .before .before .before .before .args .s .now) (sym (c .before .whole .ensures) ∙ c .if1 .taken) .long)
+
+settle-requires : tie.Need-settle-requires
+settle-requires c κs = whole-of (c .before .before .before .before .before .args .s .now) (sym (c .before .before .whole .ensures) ∙ c .before .if1 .taken) .queue
+
+same-length-2 : tie.Need-same-length-2
+same-length-2 c = search needs
+
+returns-2 : tie.Need-returns-2
+returns-2 c = over-queue (c .before .before .before .before .before .before .before .before .args .s .now) (sym (c .before .before .before .before .before .whole .ensures) ∙ c .before .before .before .before .if1 .taken) (bytes-of (c .before .before .before .before .before .before .before .before .args .s .now) (c .before .before .before .before .before .before .before .slice-known .given)) (settle (reported (c .before .before .before .before .before .before .before .before .args .frame) (c .before .before .before .before .before .before .before .before .args .priority) (c .before .before .before .before .before .before .before .before .args .length) (c .before .before .before .before .before .before .before .before .args .last)) (c .before .before .before .before .before .before .before .before .args .readiness)) (steps.settle (reported (c .before .before .before .before .before .before .before .before .args .frame) (c .before .before .before .before .before .before .before .before .args .priority) (c .before .before .before .before .before .before .before .before .args .length) (c .before .before .before .before .before .before .before .before .args .last)) (c .before .before .before .before .before .before .before .before .args .readiness) (queue.read (queuePart (c .before .before .before .before .before .before .before .before .args .s .now)))) refl _ _ (c .before .before .settle .kept .0) (c .before .before .settle .ensures)
+
+pub settle-spec : {M : Type 1} → statement M
+settle-spec =
+    tie.close
+    (tie.spec
+    whole-requires
+    same-length
+    returns
+    sub-settle
+    part-settle-start
+    part-settle-end
+    settle-requires
+    same-length-2
+    returns-2)

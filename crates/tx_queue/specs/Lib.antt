@@ -1,0 +1,5 @@
+pub mod TxQueue
+pub mod Steps
+pub mod Bytes
+pub mod Calls
+pub mod Inner

@@ -8,7 +8,7 @@ use native.Mathlib.Omega.{arith}
 use lib.Dec.{T, eqb, leb}
 use lib.ListN.{length}
 use borrow.Author.Tests.{leb-true, leb-false, ltb-true, ltb-false, eqb-true, eqb-false, eq-eqb, lt-ltb, le-ltb}
-use Rattle.entry_tree.specs.Pairs.{Pair, pair, bit, count, any, isEntry, onSubject, without, inserted}
+use Rattle.entry_tree.specs.Pairs.{Pair, bit, count, any, isEntry, onSubject, without}
 use Rattle.entry_tree.proofs.Changes.{without-count, without-count-same, without-length}
 
 pub data Same (a b : ℕ) : Type 0 where

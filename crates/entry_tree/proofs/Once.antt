@@ -1,8 +1,8 @@
 -- Trees in which no entry stands twice: what is kept when a pair joins and when one leaves.
-use Prim.Native.Nat.{ℕ, zero, suc, _+_, _<_, _≤_}
+use Prim.Native.Nat.{ℕ, suc, _<_, _≤_}
 use mathlib.Core.Path.{_≡_, refl, sym, ap, _∙_}
 use mathlib.Core.List.{List, [], _∷_}
-use mathlib.Core.Bool.{Bool, true, false}
+use mathlib.Core.Bool.{true, false}
 use native.Mathlib.Omega.{arith}
 use native.Mathlib.Decide.{ℕ-discrete, decLt}
 use lib.Dec.{leb}
@@ -12,7 +12,7 @@ use Rattle.state.specs.Result.{Bytes}
 use Rattle.state.specs.Seq.{allB, each}
 use Rattle.state.proofs.Seq.{all-true, all-at}
 use Rattle.state.proofs.Tests.{and-l, and-r, and-true}
-use Rattle.entry_tree.specs.Pairs.{Pair, pair, bit, count, isEntry, onSubject, hasEntry, hasSubject, inserted, without, inRange, inOrder, rising, onceB}
+use Rattle.entry_tree.specs.Pairs.{Pair, pair, bit, count, isEntry, onSubject, hasEntry, inserted, without, inRange, inOrder, rising, onceB}
 use Rattle.entry_tree.specs.Places.{treeLength, size, pairAt, read, laid}
 use Rattle.entry_tree.proofs.Changes.{order-cons, order-lower, by-order, inserted-count, by-entry, without-count}
 use Rattle.entry_tree.proofs.Count.{same, diff, compareEq, any-false, few-entries}

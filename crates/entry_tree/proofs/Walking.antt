@@ -1,5 +1,5 @@
 -- A walk over a tree: where it starts, where it goes on, and the byte that holds it.
-use Prim.Native.Nat.{ℕ, zero, suc, _+_, _<_, _≤_}
+use Prim.Native.Nat.{ℕ, zero, suc, _<_, _≤_}
 use mathlib.Core.Path.{_≡_, refl, sym, ap, _∙_}
 use mathlib.Core.Logic.{_≢_}
 use mathlib.Core.List.{List, [], _∷_}
@@ -14,7 +14,7 @@ use lib.Seq.{set-getD}
 use borrow.Author.Tests.{lt-ltb, le-ltb, eqb-true, eqb-false, eq-eqb, ne-eqb}
 use Rattle.state.proofs.Tests.{by-cond}
 use Rattle.entry_tree.specs.Pairs.{Pair, count, position, isEntry, onSubject, find, placeOf, without}
-use Rattle.entry_tree.specs.Places.{size, entryAt, subjectAt, pairAt, read}
+use Rattle.entry_tree.specs.Places.{size, entryAt, read}
 use Rattle.entry_tree.specs.Walks.{first, firstOn, nextOn, movedPast, walkOf, walkOver}
 use Rattle.entry_tree.specs.Inner.{walkAt, withWalk, withWalkPast}
 use Rattle.entry_tree.specs.declared.walk.Walk.{Walk}

@@ -1,7 +1,7 @@
 -- The filter image: 1,024 bytes; subject x is bit x mod 8 of byte x div 8. Its calls, on the set of subjects that it holds.
 use Prim.Native.Nat.{ℕ, _+_, _*_, _/_, _%_, _^_}
 use mathlib.Core.List.{List}
-use mathlib.Core.Bool.{Bool, true, false, cond, not, _&&_, _||_}
+use mathlib.Core.Bool.{Bool, false, cond, not, _&&_, _||_}
 use lib.Dec.{eqb, leb, ltb}
 use lib.ListN.{length, getD}
 use Rattle.state.specs.Lengths.{imageLength}

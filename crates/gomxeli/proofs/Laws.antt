@@ -1,5 +1,5 @@
 -- Laws of the answers. Assumes nothing.
-use Prim.Native.Nat.{ℕ, _+_, _%_, _<_, _≤_}
+use Prim.Native.Nat.{ℕ, _%_, _<_, _≤_}
 use mathlib.Core.Path.{_≡_, refl, sym, ap, _∙_}
 use mathlib.Core.Bool.{Bool, true, false, cond}
 use native.Mathlib.Omega.{arith}

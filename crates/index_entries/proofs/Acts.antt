@@ -1,18 +1,18 @@
 -- What the stores of each act come to: the bytes of the changed meaning.
-use Prim.Native.Nat.{ℕ, zero, suc, _+_, _-_, _*_, _/_, _%_, _^_, _<_, _≤_}
+use Prim.Native.Nat.{ℕ, _+_, _-_, _*_, _<_, _≤_}
 use mathlib.Core.Path.{_≡_, refl, sym, ap, _∙_, subst}
 use mathlib.Core.Logic.{_≢_}
 use mathlib.Core.List.{List, [], _∷_, _++_}
-use mathlib.Core.Bool.{Bool, true, false, cond}
+use mathlib.Core.Bool.{Bool, true, false}
 use native.Mathlib.Omega.{arith}
 use mir.Val.{Fits}
 use mir.Syntax.{w8}
-use native.Mathlib.Decide.{ℕ-discrete, decLt}
+use native.Mathlib.Decide.{decLt}
 use lib.ListN.{length, getD, set, take, drop, length-set, length-map}
 use lib.Seq.{set-getD}
-use lib.Dec.{leb, eqb}
+use lib.Dec.{eqb}
 use borrow.Author.Tests.{lt-ltb, le-leb, lt-leb, eq-eqb, eqb-true}
-use Rattle.state.specs.Lengths.{keysAllowed, keysLength}
+use Rattle.state.specs.Lengths.{keysLength}
 use Rattle.state.specs.Result.{Bytes}
 use Rattle.state.proofs.Tests.{not-both, false-of}
 use Rattle.multi_cycle_list.specs.Lists.{Lists, Fair, count, row, without, removed, without-entry, movedFront, movedBack}
@@ -21,7 +21,7 @@ use Rattle.multi_cycle_list.specs.Laid as lists
 use Rattle.multi_cycle_list.proofs.Laid as mcl
 use Rattle.multi_cycle_list.proofs.Changes.{remove-fair, front-fair, back-fair}
 use Rattle.index_entries.specs.Keys.{Slot, free, holds, spent, Keys, hasKey, isFree, slot, Found, missing, at, found, Within, FairKeys, withSlot, withLists, changed as change}
-use Rattle.index_entries.specs.Bytes.{kMax, entries, listPart, keyWord, value, index, slotOf, slotAt, read, wholeB}
+use Rattle.index_entries.specs.Bytes.{kMax, entries, listPart, keyWord, value, index, read, wholeB}
 use Rattle.index_entries.specs.Inner.{setWord, setLong, withList}
 use Rattle.index_entries.specs.Laid.{wordOver, valueOver, indexOver, laid}
 use Rattle.index_entries.proofs.Find.{Looks, looks, found-none, found-at, key-not-free}
@@ -31,7 +31,7 @@ use Rattle.index_entries.proofs.Keeping.{Keeps, slot-same, slot-other, 
 use Rattle.index_entries.proofs.Fields.{Has, has-same, has-one}
 use Rattle.index_entries.proofs.Stores.{upd, upd-same, upd-other, has-list, store-word, store-long, store-index}
 use Rattle.index_entries.proofs.LaidFields.{laid-has-at}
-use Rattle.index_entries.proofs.Facts.{Facts, Owns, facts-of, slots-length, slot-in, part-entries, owner, named, found-index, found-no-index, read-fair, self-has, by-word, word-self, value-self}
+use Rattle.index_entries.proofs.Facts.{Facts, facts-of, slots-length, slot-in, part-entries, owner, named, read-fair, self-has, word-self, value-self}
 
 -- ---- what a change keeps, by the change of the lists
 

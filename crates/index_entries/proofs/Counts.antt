@@ -1,12 +1,10 @@
 -- How often an entry stands in the second of two lists after each change.
-use Prim.Native.Nat.{ℕ, zero, suc, _+_, _<_, _≤_}
-use mathlib.Core.Path.{_≡_, refl, sym, ap, _∙_, subst}
+use Prim.Native.Nat.{ℕ, _+_}
+use mathlib.Core.Path.{_≡_, refl, sym, ap, _∙_}
 use mathlib.Core.Logic.{_≢_}
-use mathlib.Core.List.{List, [], _∷_, _++_, map}
-use mathlib.Core.Bool.{Bool, true, false, cond}
+use mathlib.Core.List.{List, [], _∷_, _++_}
 use native.Mathlib.Omega.{arith}
-use native.Mathlib.Decide.{ℕ-discrete}
-use lib.ListN.{length, getD, set, length-map, List·getD-map}
+use lib.ListN.{length, getD, length-map, List·getD-map}
 use lib.Seq.{getD-set-same, getD-set-other}
 use Rattle.multi_cycle_list.specs.Lists.{Lists, count, without, removed, row, without-entry, movedFront, movedBack}
 use Rattle.multi_cycle_list.proofs.Lists.{count-same, count-other}

@@ -1,28 +1,25 @@
 -- What the test of wholeness tells, and the meaning of whole bytes.
-use Prim.Native.Nat.{ℕ, zero, suc, _+_, _-_, _*_, _/_, _%_, _^_, _<_, _≤_}
+use Prim.Native.Nat.{ℕ, _+_, _-_, _*_, _/_, _%_, _^_, _<_, _≤_}
 use mathlib.Core.Path.{_≡_, refl, sym, ap, _∙_, subst}
-use mathlib.Core.Logic.{_≢_}
-use mathlib.Core.List.{List, [], _∷_}
-use mathlib.Core.Bool.{Bool, true, false, cond, _&&_, not, and-false}
+use mathlib.Core.List.{List}
+use mathlib.Core.Bool.{true, false, cond, _&&_, not}
 use native.Mathlib.Omega.{arith}
-use native.Mathlib.Decide.{ℕ-discrete, decLt}
-use lib.ListN.{length, getD, take, drop, List·getD-eq-default}
+use native.Mathlib.Decide.{decLt}
+use lib.ListN.{length, getD, drop, List·getD-eq-default}
 use lib.Seq.{getD-take, getD-drop}
 use lib.Dec.{leb, ltb, eqb}
-use borrow.Author.Tests.{lt-ltb, le-ltb, ltb-true, ltb-false, le-leb, leb-true, eq-eqb, eqb-true, not-true}
+use borrow.Author.Tests.{lt-ltb, le-ltb, ltb-true, le-leb, leb-true, eq-eqb, eqb-true, not-true}
 use Rattle.state.specs.Lengths.{keysAllowed, keysLength}
 use Rattle.state.specs.Result.{Bytes}
 use Rattle.state.specs.Seq.{allB, each}
 use Rattle.state.proofs.Seq.{all-true, all-at, length-each, getD-each}
-use Rattle.state.proofs.Tests.{and-l, and-r, and4, and-true, not-both, false-of}
-use Rattle.multi_cycle_list.specs.Lists.{Fair, count, row}
+use Rattle.state.proofs.Tests.{and-l, and-r, and4, not-both, false-of}
+use Rattle.multi_cycle_list.specs.Lists.{count, row}
 use Rattle.multi_cycle_list.specs.Nodes as nodes
-use Rattle.multi_cycle_list.specs.Laid as lists
-use Rattle.multi_cycle_list.proofs.Arcs.{row-count}
 use Rattle.multi_cycle_list.proofs.Meaning.{list-at}
 use Rattle.multi_cycle_list.proofs.Laid as mcl
 use Rattle.multi_cycle_list.proofs.Changes.{rows-length}
-use Rattle.index_entries.specs.Keys.{Slot, free, holds, spent, Keys, hasKey, isFree, slot, Found, missing, at, found, Within, FairKeys}
+use Rattle.index_entries.specs.Keys.{Slot, free, holds, spent, hasKey, isFree, slot, missing, at, found, Within, FairKeys}
 use Rattle.index_entries.specs.Bytes.{wordAt, kMax, entries, listPart, keyWord, value, index, slotOf, slotAt, read, sizesB, listsB, isListed, indexed, slotB, keyB, wholeB}
 use Rattle.index_entries.specs.Laid.{wordOver, valueOver, indexOver, laid}
 use Rattle.index_entries.proofs.Find.{found-none, found-at}

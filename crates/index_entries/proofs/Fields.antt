@@ -1,12 +1,10 @@
 -- The fields of a key queue's bytes: what stands where, and that this decides the bytes.
-use Prim.Native.Nat.{ℕ, zero, suc, _+_, _-_, _*_, _/_, _%_, _<_, _≤_}
-use mathlib.Core.Path.{_≡_, refl, sym, ap, _∙_, subst}
-use mathlib.Core.Logic.{_≢_}
-use mathlib.Core.List.{List, [], _∷_, _++_}
-use mathlib.Core.Bool.{Bool, true, false, cond}
+use Prim.Native.Nat.{ℕ, _+_, _-_, _*_, _/_, _%_, _<_, _≤_}
+use mathlib.Core.Path.{_≡_, sym, ap, _∙_, subst}
+use mathlib.Core.List.{List}
 use native.Mathlib.Omega.{arith}
-use native.Mathlib.Decide.{ℕ-discrete, decLt}
-use lib.ListN.{length, getD, set, take, drop}
+use native.Mathlib.Decide.{decLt}
+use lib.ListN.{length, getD, take, drop}
 use lib.Seq.{ext-getD, getD-take, getD-drop}
 use Rattle.state.specs.Lengths.{keysLength}
 use Rattle.state.specs.Result.{Bytes}

@@ -1,12 +1,12 @@
 -- Looking for a key among the slots.
-use Prim.Native.Nat.{ℕ, zero, suc, _+_, _<_, _≤_}
-use mathlib.Core.Path.{_≡_, refl, sym, ap, _∙_, subst}
+use Prim.Native.Nat.{ℕ, zero, suc, _<_}
+use mathlib.Core.Path.{_≡_, refl, sym, ap, _∙_}
 use mathlib.Core.List.{List, [], _∷_}
 use mathlib.Core.Bool.{Bool, true, false, cond}
 use native.Mathlib.Omega.{arith}
 use lib.ListN.{length, getD}
 use borrow.Author.Tests.{eqb-true}
-use Rattle.state.proofs.Tests.{not-both, false-of}
+use Rattle.state.proofs.Tests.{not-both}
 use Rattle.index_entries.specs.Keys.{Slot, free, holds, spent, hasKey, isFree, Found, missing, at, find}
 
 -- what the search tells of the slots: none has the key, or the slot found has it

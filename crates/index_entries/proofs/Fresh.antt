@@ -1,27 +1,26 @@
 -- Opening: the bytes it leaves, and that what they mean is fair.
 use Prim.Native.Nat.{ℕ, zero, suc, _+_, _-_, _*_, _/_, _%_, _<_, _≤_}
 use mathlib.Core.Path.{_≡_, refl, sym, ap, _∙_, subst}
-use mathlib.Core.Logic.{_≢_}
-use mathlib.Core.List.{List, [], _∷_, _++_, map}
-use mathlib.Core.Bool.{Bool, true, false, cond}
+use mathlib.Core.List.{List, [], _∷_, _++_}
+use mathlib.Core.Bool.{true, false}
 use native.Mathlib.Omega.{arith}
-use native.Mathlib.Decide.{ℕ-discrete, decLt}
+use native.Mathlib.Decide.{ℕ-discrete}
 use native.Mathlib.Nat.{not-suc-le-zero}
 use native.Mathlib.Numerals.{add-one}
 use lib.ListN.{length, getD, set, take, drop, replicate, length-set, length-replicate, getD-replicate}
-use lib.Seq.{ext-getD, getD-set-same, getD-set-other}
+use lib.Seq.{getD-set-same, getD-set-other}
 use borrow.Author.Tests.{le-leb}
-use Rattle.state.specs.Lengths.{listsAllowed, listsLength, keysAllowed, keysLength}
+use Rattle.state.specs.Lengths.{listsAllowed, keysAllowed, keysLength}
 use Rattle.state.specs.Seq.{each}
 use Rattle.state.proofs.Tests.{not-both}
-use Rattle.multi_cycle_list.specs.Lists.{Lists, Fair, count, row, without, removed, movedBack, empty}
+use Rattle.multi_cycle_list.specs.Lists.{Lists, Fair, count, without, movedBack, empty}
 use Rattle.multi_cycle_list.specs.Nodes as nodes
 use Rattle.multi_cycle_list.specs.Laid as lists
 use Rattle.multi_cycle_list.proofs.Lists.{In, in-count, without-none, count-append}
 use Rattle.multi_cycle_list.proofs.WholeTools.{of-allowed}
 use Rattle.multi_cycle_list.proofs.Laid as mcl
 use Rattle.multi_cycle_list.proofs.Changes.{back-fair, empty-fair}
-use Rattle.index_entries.specs.Keys.{Slot, free, Keys, hasKey, isFree, slot, found, missing, FairKeys, freeFirst, fresh}
+use Rattle.index_entries.specs.Keys.{Slot, free, hasKey, isFree, slot, found, missing, FairKeys, freeFirst, fresh}
 use Rattle.index_entries.specs.Bytes.{keyWord, value, index}
 use Rattle.index_entries.specs.Laid.{wordOver, valueOver, indexOver, laid}
 use Rattle.index_entries.specs.Inner.{setWord}

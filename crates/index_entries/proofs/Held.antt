@@ -1,13 +1,12 @@
 -- What an entry holds, by its word.
 use Prim.Native.Nat.{ℕ, _-_, _<_, _≤_}
-use mathlib.Core.Path.{_≡_, refl, sym, ap, _∙_}
+use mathlib.Core.Path.{_≡_, sym, ap, _∙_}
 use mathlib.Core.List.{List}
 use native.Mathlib.Omega.{arith}
 use borrow.Author.Tests.{lt-ltb, le-ltb}
-use Rattle.index_entries.specs.Keys.{Slot, slot}
+use Rattle.index_entries.specs.Keys.{slot}
 use Rattle.index_entries.specs.Bytes.{entries, keyWord, value, read}
 use Rattle.index_entries.specs.Answers.{heldOf}
-use Rattle.index_entries.specs.declared.look.Held.{Held}
 use Rattle.index_entries.specs.declared.look.Held.the-variants.{Value, Spent, Free}
 use Rattle.index_entries.proofs.Facts.{slot-in}
 

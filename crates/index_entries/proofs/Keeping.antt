@@ -1,16 +1,15 @@
 -- One law for all changes of a key queue: an entry's slot and the lists are replaced, and the meaning stays fair.
-use Prim.Native.Nat.{ℕ, zero, suc, _+_, _<_, _≤_}
+use Prim.Native.Nat.{ℕ, _<_}
 use mathlib.Core.Path.{_≡_, refl, sym, ap, _∙_, subst}
 use mathlib.Core.Logic.{_≢_}
-use mathlib.Core.List.{List, [], _∷_}
-use mathlib.Core.Bool.{Bool, true, false, cond}
+use mathlib.Core.Bool.{true}
 use native.Mathlib.Omega.{arith}
-use native.Mathlib.Decide.{ℕ-discrete, decLt}
-use lib.ListN.{length, getD, set, length-set, List·getD-eq-default}
+use native.Mathlib.Decide.{ℕ-discrete}
+use lib.ListN.{length, getD, set, length-set}
 use lib.Seq.{getD-set-same, getD-set-other}
 use Rattle.multi_cycle_list.specs.Lists.{Lists, Fair, count, row}
 use Rattle.state.specs.Lengths.{keysAllowed}
-use Rattle.index_entries.specs.Keys.{Slot, free, holds, spent, Keys, hasKey, isFree, slot, Within, FairKeys, changed as change}
+use Rattle.index_entries.specs.Keys.{Slot, free, Keys, hasKey, isFree, slot, Within, FairKeys, changed as change}
 
 -- what a change needs to keep the meaning fair
 pub record Keeps (m : Keys) (i : ℕ) (x : Slot) (l : Lists) : Type 0 where

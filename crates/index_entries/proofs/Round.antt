@@ -1,28 +1,26 @@
 -- Whatever is fair is laid out as whole bytes, which mean it.
-use Prim.Native.Nat.{ℕ, zero, suc, _+_, _-_, _*_, _/_, _%_, _^_, _<_, _≤_}
+use Prim.Native.Nat.{ℕ, _+_, _-_, _*_, _<_, _≤_}
 use mathlib.Core.Path.{_≡_, refl, sym, ap, _∙_, subst}
-use mathlib.Core.Logic.{_≢_}
-use mathlib.Core.List.{List, [], _∷_}
-use mathlib.Core.Bool.{Bool, true, false, cond, _&&_, not}
+use mathlib.Core.List.{List}
+use mathlib.Core.Bool.{true}
 use native.Mathlib.Omega.{arith}
-use native.Mathlib.Decide.{ℕ-discrete, decLt}
+use native.Mathlib.Decide.{decLt}
 use lib.ListN.{length, getD, take, drop}
 use lib.Seq.{getD-take, getD-drop}
-use lib.Dec.{leb, ltb, eqb}
 use borrow.Author.Tests.{lt-ltb, le-ltb, ltb-true, le-leb, lt-leb, eqb-true}
-use Rattle.state.specs.Lengths.{keysAllowed, keysLength}
+use Rattle.state.specs.Lengths.{keysLength}
 use Rattle.state.specs.Result.{Bytes}
 use Rattle.state.specs.Seq.{each}
 use Rattle.state.proofs.Seq.{each-same, each-getD}
 use Rattle.state.proofs.Numbers.{join}
 use Rattle.state.proofs.Tests.{not-both, false-of}
-use Rattle.multi_cycle_list.specs.Lists.{Lists, Fair, count, row}
+use Rattle.multi_cycle_list.specs.Lists.{Lists, count, row}
 use Rattle.multi_cycle_list.specs.Nodes as nodes
 use Rattle.multi_cycle_list.specs.Laid as lists
 use Rattle.multi_cycle_list.proofs.Meaning.{list-at}
 use Rattle.multi_cycle_list.proofs.Laid as mcl
-use Rattle.index_entries.specs.Keys.{Slot, free, holds, spent, Keys, hasKey, isFree, slot, Found, missing, at, found, Within, FairKeys}
-use Rattle.index_entries.specs.Bytes.{wordAt, kMax, entries, listPart, keyWord, value, index, slotOf, slotAt, read, isListed, slotB, keyB, wholeB}
+use Rattle.index_entries.specs.Keys.{Slot, free, holds, spent, Keys, hasKey, slot, Found, missing, at, found, Within, FairKeys}
+use Rattle.index_entries.specs.Bytes.{kMax, entries, listPart, keyWord, value, index, slotOf, slotAt, read, isListed, keyB, wholeB}
 use Rattle.index_entries.specs.Laid.{wordOver, valueOver, indexOver, laid}
 use Rattle.index_entries.proofs.Find.{Looks, looks, found-at, key-not-free}
 use Rattle.index_entries.proofs.Fields.{Has, has-bytes}

@@ -1,5 +1,4 @@
 -- What the inner functions answer, from the plain meaning.
-use Prim.Native.Nat.{ℕ}
 use Rattle.index_entries.specs.Keys.{Slot, free, holds, spent, Found, missing, at}
 use Rattle.index_entries.specs.declared.look.Place.{Place}
 use Rattle.index_entries.specs.declared.look.Place.the-variants.{At, Nowhere}

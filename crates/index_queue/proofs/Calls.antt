@@ -22,7 +22,6 @@ use Rattle.index_entries.specs.Bytes.{kMax, entries, keyWord, value, read, whol
 use Rattle.index_entries.specs.Laid.{laid}
 use Rattle.index_entries.specs.Answers.{placeOf, heldOf}
 use Rattle.index_entries.specs.declared.look.Place.the-variants.{At, Nowhere}
-use Rattle.index_entries.specs.declared.look.Held as held
 use Rattle.index_entries.specs.declared.look.Held.the-variants as held-is
 use Rattle.index_entries.proofs.Find.{Looks, looks, key-not-free}
 use Rattle.index_entries.proofs.Facts.{facts-of, slot-in, slots-length, by-word, read-fair, laid-read}

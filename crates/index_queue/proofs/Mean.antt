@@ -1,33 +1,33 @@
 -- Each call keeps a key queue fair; so the theorem of specs/Calls.antt.
-use Prim.Native.Nat.{ℕ, zero, suc, _+_, _*_, _^_, _<_, _≤_}
+use Prim.Native.Nat.{ℕ, _^_, _<_, _≤_}
 use mathlib.Core.Path.{_≡_, refl, sym, ap, _∙_, subst}
-use mathlib.Core.Logic.{_≢_, inl}
+use mathlib.Core.Logic.{inl}
 use mathlib.Core.List.{List, [], _∷_}
 use mathlib.Core.Bool.{Bool, true, false, cond}
 use native.Mathlib.Omega.{arith}
 use native.Mathlib.Decide.{decLt}
-use lib.ListN.{length, getD, set, replicate, length-set, length-replicate, getD-replicate, List·getD-eq-default}
+use lib.ListN.{length, replicate, length-set, length-replicate, getD-replicate, List·getD-eq-default}
 use lib.Seq.{set-getD}
 use lib.Dec.{ltb, eqb}
 use borrow.Author.Tests.{ltb-false, eqb-true}
 use Rattle.state.specs.Lengths.{keysAllowed, keysLength}
-use Rattle.state.specs.Result.{Result, refuse, done, left, Bytes, Means}
+use Rattle.state.specs.Result.{Result, refuse, done, left, Bytes}
 use Rattle.state.proofs.Tests.{not-both, by-cond}
-use Rattle.state.proofs.Calls.{Kept, kept}
-use Rattle.multi_cycle_list.specs.Lists.{Lists, Fair, count, row, without-entry, movedFront, movedBack}
+use Rattle.state.proofs.Calls.{means-of}
+use Rattle.multi_cycle_list.specs.Lists.{Lists, count, row, without-entry, movedFront, movedBack}
 use Rattle.multi_cycle_list.proofs.Lists.{in-count}
-use Rattle.index_entries.specs.Keys.{Slot, free, holds, spent, Keys, hasKey, isFree, slot, Found, missing, at, found, Within, FairKeys, withSlot, withLists, changed, fresh}
+use Rattle.index_entries.specs.Keys.{Slot, free, holds, spent, Keys, hasKey, isFree, slot, Found, missing, at, found, Within, FairKeys, withSlot, withLists, fresh}
 use Rattle.index_entries.specs.Bytes.{kMax, entries, read, wholeB}
 use Rattle.index_entries.specs.Laid.{laid}
 use Rattle.index_entries.proofs.Find.{Looks, looks, key-not-free}
-use Rattle.index_entries.proofs.Keeping.{Keeps, change-fair}
+use Rattle.index_entries.proofs.Keeping.{change-fair}
 use Rattle.index_entries.proofs.Acts.{Moves, moves-gone, moves-front, moves-back, moves-free, moves-none, keeps}
 use Rattle.index_entries.proofs.Facts.{facts-of, slots-length, read-fair, laid-read}
 use Rattle.index_entries.proofs.Round.{laid-whole, read-laid, laid-bytes}
 use Rattle.index_entries.proofs.Fresh.{fresh-fair}
-use Rattle.index_queue.specs.Calls.{contains, get, storedIn, getMut, insertNew, insertIn, insert, removeIn, remove, front, back, queueIn, enqueueFront, enqueueBack, dequeue, opening, on, bytes, Call, Contains, Get, Remove, EnqueueFront, EnqueueBack, Dequeue, GetMut, Insert, Front, Back, step, Sized, KeysMean}
+use Rattle.index_queue.specs.Calls.{contains, get, storedIn, getMut, insertNew, insertIn, insert, removeIn, remove, front, back, queueIn, enqueueFront, enqueueBack, dequeue, opening, Call, Contains, Get, Remove, EnqueueFront, EnqueueBack, Dequeue, GetMut, Insert, Front, Back, step, Sized, KeysMean}
 use Rattle.index_queue.specs.declared.Answer.{Answer}
-use Rattle.index_queue.specs.declared.Answer.the-variants.{Refused, NotTaken, Done, Nothing, Key, Value, Holds}
+use Rattle.index_queue.specs.declared.Answer.the-variants.{Refused, NotTaken, Done}
 use Rattle.index_queue.proofs.Calls.{in-size}
 
 module _ (m : Keys) (f : FairKeys m) where
@@ -155,11 +155,6 @@ step-sized c m n f z =
 read-sized : (b : List ℕ) → wholeB b ≡ true → Sized (read b) (length b)
 read-sized b h = facts-of b h .len ∙ ap (keysLength (kMax b)) (sym (slots-length b))
 
-keeps-all : (c : Call) (b : List ℕ) → Bytes b → wholeB b ≡ true → Kept wholeB read laid b (on (step c) b) (step c (read b))
-keeps-all c b y h =
-    kept wholeB read laid (Refused 1) FairKeys Sized laid-bytes laid-whole read-laid (step c) b y h
-    (step-fair c (read b) (read-fair b (facts-of b h) y)) (step-sized c (read b) (length b) (read-fair b (facts-of b h) y) (read-sized b h))
-
 open-inv : (p l : Bool) (m₀ : Keys) (a : Answer) (m : Keys) → cond p (cond l (done Done m₀) (refuse (Refused 1))) (refuse (Refused 13)) ≡ done a m → (p ≡ true) × ((l ≡ true) × (m₀ ≡ m))
 open-inv true true m₀ a m q = (refl, (refl, cc))
 open-inv true false m₀ a m q = absurd (let z : _≡_ {A = ℕ} 0 1 = cc in omega arith)
@@ -184,17 +179,5 @@ pub mean : KeysMean
 mean =
     record {
       opened = opened;
-      meaning = record {
-        whole-fair = λ b y h. read-fair b (facts-of b h) y;
-        whole-sized = read-sized;
-        laid-read = λ b y h. laid-read b (facts-of b h) y;
-        laid-bytes = laid-bytes;
-        laid-whole = laid-whole;
-        read-laid = read-laid;
-        step-fair = step-fair;
-        step-sized = step-sized;
-        keeps-bytes = λ c b y h. keeps-all c b y h .are-bytes;
-        keeps-whole = λ c b y h. keeps-all c b y h .are-whole;
-        keeps-meaning = λ c b y h. keeps-all c b y h .meaning;
-      };
+      meaning = means-of wholeB read laid (Refused 1) FairKeys Sized laid-bytes laid-whole read-laid step (λ b y h. read-fair b (facts-of b h) y) read-sized (λ b y h. laid-read b (facts-of b h) y) step-fair step-sized;
     }

@@ -3,16 +3,16 @@ use Prim.Native.Nat.{ℕ, zero, suc, _+_, _<_}
 use mathlib.Core.Path.{_≡_, refl, sym, ap, _∙_, subst}
 use mathlib.Core.List.{List, _∷_}
 use mathlib.Core.Option.{some}
-use mathlib.Core.Bool.{Bool, true, false, cond}
+use mathlib.Core.Bool.{true}
 use native.Mathlib.Omega.{arith}
 use lib.Dec.{eqb}
 use lib.ListN.{length, getD, drop, replicate, length-replicate}
 use lib.Seq.{getD-drop}
 use borrow.Author.Tests.{eqb-true}
 use Rattle.state.specs.Lengths.{loopBackLength}
-use Rattle.state.specs.Result.{refuse, done, Bytes}
+use Rattle.state.specs.Result.{done, Bytes}
 use Rattle.state.proofs.Bytes.{bytes-part, bytes-append}
-use Rattle.state.proofs.Calls.{Kept, kept}
+use Rattle.state.proofs.Calls.{opened-is, means-of}
 use Rattle.state.proofs.Filled.{zero-bytes}
 use Rattle.entry_tree.specs.Places as tree
 use Rattle.entry_tree.specs.Walks.{walkOf, walkOver}
@@ -22,8 +22,8 @@ use Rattle.entry_tree.proofs.Walking.{walk-back, walk-byte, walk-same}
 use Rattle.loop_back.specs.Registry as registry
 use Rattle.loop_back.specs.Registry.{Registry, fresh}
 use Rattle.loop_back.specs.Bytes.{treePart, wholeB, read, laid}
-use Rattle.loop_back.specs.Steps.{Call, step}
-use Rattle.loop_back.specs.Calls.{opening, on}
+use Rattle.loop_back.specs.Steps.{step}
+use Rattle.loop_back.specs.Calls.{opening}
 use Rattle.loop_back.specs.Means.{Fair, Sized, LoopBackMeans}
 use Rattle.loop_back.specs.declared.Answer.{Answer}
 use Rattle.loop_back.specs.declared.Answer.the-variants.{Refused, Done}
@@ -85,17 +85,10 @@ module _ (m : Registry) (b : List ℕ) (y : Bytes b) (f : Fair m) (l : length b 
 
 -- ---- the theorem
 
-keeps-all : (k : Call) (b : List ℕ) → Bytes b → wholeB b ≡ true → Kept wholeB read laid b (on (step k) b) (step k (read b))
-keeps-all k b y h = let w = whole-of b h in kept wholeB read laid (Refused 1) Fair Sized laid-bytes laid-whole read-laid (step k) b y h (step-fair k (read b) (w .means)) (w .long)
-
-open-inv : (p : Bool) (a : Answer) (m : Registry) → cond p (done Done fresh) (refuse (Refused 1)) ≡ done a m → (p ≡ true) × (fresh ≡ m)
-open-inv true a m h = (refl, cc)
-open-inv false a m h = absurd (let z : _≡_ {A = ℕ} 0 1 = cc in omega arith)
-
 opened : (b : ℕ) (a : Answer) (m : Registry) → opening b ≡ done a m → wholeB (laid m (replicate b 0)) ≡ true
 unfolding opening
 opened b a m q =
-    let i = open-inv (eqb b loopBackLength) a m q in
+    let i = opened-is (eqb b loopBackLength) Done (Refused 1) fresh a m q in
     subst (λ (x : Registry). wholeB (laid x (replicate b 0)) ≡ true) (i .1)
     (laid-whole fresh (replicate b 0) (zero-bytes b) (of-facts fresh fresh-facts) (length-replicate {A = ℕ} b 0 ∙ eqb-true b loopBackLength (i .0)))
 
@@ -103,17 +96,5 @@ pub means : LoopBackMeans
 means =
     record {
       opened = opened;
-      meaning = record {
-        whole-fair = λ b y h. whole-of b h .means;
-        whole-sized = λ b h. whole-of b h .long;
-        laid-read = laid-read;
-        laid-bytes = laid-bytes;
-        laid-whole = laid-whole;
-        read-laid = read-laid;
-        step-fair = step-fair;
-        step-sized = λ k m n f z. z;
-        keeps-bytes = λ k b y h. keeps-all k b y h .are-bytes;
-        keeps-whole = λ k b y h. keeps-all k b y h .are-whole;
-        keeps-meaning = λ k b y h. keeps-all k b y h .meaning;
-      };
+      meaning = means-of wholeB read laid (Refused 1) Fair Sized laid-bytes laid-whole read-laid step (λ b y h. whole-of b h .means) (λ b h. whole-of b h .long) laid-read step-fair (λ k m n f z. z);
     }

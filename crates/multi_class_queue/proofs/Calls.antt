@@ -12,10 +12,9 @@ use lib.Dec.{ltb, eqb}
 use borrow.Author.Tests.{lt-ltb, le-ltb, lt-leb, ltb-true, ltb-false, eqb-true, eq-eqb, ne-eqb}
 use Rattle.state.specs.Lengths.{listsAllowed, listsLength}
 use Rattle.state.specs.Seq.{each}
-use Rattle.state.specs.Result.{Result, refuse, done, answer, left, Bytes}
-use Rattle.state.specs.Result as state
+use Rattle.state.specs.Result.{Result, refuse, done, answer, left}
 use Rattle.state.proofs.Tests.{not-both, false-of, and-l, and-r}
-use Rattle.state.proofs.Calls.{Ends, Kept, kept, not-whole, refused, laid-out}
+use Rattle.state.proofs.Calls.{Ends, not-whole, refused, laid-out, means-of}
 use Rattle.multi_cycle_list.specs.Nodes.{classes, entries, next, prev, wholeB, listOf, listsOf, read}
 use Rattle.multi_cycle_list.specs.Lists.{Lists, Fair, without, removed, pushedFront, pushedBack, withRows, without-entry, movedFront, movedBack, empty, row, first, last}
 use Rattle.multi_class_queue.specs.Inner.{refusal}
@@ -333,28 +332,11 @@ step-sized (MoveBack c e) m n f z = same-size (ltb c (length (m .rows)) && ltb e
 read-sized : (b : List ℕ) → wholeB b ≡ true → Sized (read b) (length b)
 read-sized b h = whole-sizes b h .sized ∙ ap (λ (k : ℕ). listsLength k (entries b)) (sym (rows-length b))
 
-keeps : (k : Call) (b : List ℕ) → Bytes b → wholeB b ≡ true → Kept wholeB read over b (on (step k) b) (step k (read b))
-keeps k b y h =
-    kept wholeB read over (Refused 1) Fair Sized (λ m b y f z. whole-bytes (laid m) (laid-whole m f)) (λ m b y f z. laid-whole m f) (λ m b y f z. read-laid m f) (step k) b y h
-    (step-fair k (read b) (read-fair b h)) (step-sized k (read b) (length b) (read-fair b h) (read-sized b h))
-
 pub mean : ListsMean
 mean =
     record {
       opened = opened-whole;
-      meaning = record {
-        whole-fair = λ b y h. read-fair b h;
-        whole-sized = read-sized;
-        laid-read = λ b y h. laid-read b h;
-        laid-bytes = λ m b y f z. whole-bytes (laid m) (laid-whole m f);
-        laid-whole = λ m b y f z. laid-whole m f;
-        read-laid = λ m b y f z. read-laid m f;
-        step-fair = step-fair;
-        step-sized = step-sized;
-        keeps-bytes = λ k b y h. keeps k b y h .are-bytes;
-        keeps-whole = λ k b y h. keeps k b y h .are-whole;
-        keeps-meaning = λ k b y h. keeps k b y h .meaning;
-      };
+      meaning = means-of wholeB read over (Refused 1) Fair Sized (λ m b y f z. whole-bytes (laid m) (laid-whole m f)) (λ m b y f z. laid-whole m f) (λ m b y f z. read-laid m f) step (λ b y h. read-fair b h) read-sized (λ b y h. laid-read b h) step-fair step-sized;
     }
 
 -- ---- the ends that every call has

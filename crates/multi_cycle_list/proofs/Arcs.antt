@@ -1,18 +1,18 @@
 -- The arcs of fair lists link each node once each way: they stand for the lists.
-use Prim.Native.Nat.{ℕ, zero, suc, _+_, _-_, _*_, _<_, _≤_, zero-le}
+use Prim.Native.Nat.{ℕ, zero, suc, _+_, _-_, _<_, _≤_, zero-le}
 use mathlib.Core.Path.{_≡_, refl, sym, ap, _∙_, subst}
 use mathlib.Core.Logic.{_≢_, _⊎_, inl, inr, ⊎-elim}
 use mathlib.Core.List.{List, [], _∷_, _++_}
-use mathlib.Core.Bool.{Bool, true, false, cond}
+use mathlib.Core.Bool.{cond}
 use native.Mathlib.Omega.{arith}
 use native.Mathlib.Decide.{ℕ-discrete, decLt}
 use native.Mathlib.Nat.{not-suc-le-zero}
 use lib.ListN.{length, getD}
 use lib.Dec.{eqb}
 use borrow.Author.Tests.{eq-eqb, ne-eqb}
-use Rattle.multi_cycle_list.specs.Lists.{Lists, Fair, count, counts}
+use Rattle.multi_cycle_list.specs.Lists.{count, counts}
 use Rattle.multi_cycle_list.specs.Laid.{Arc, arc, path, arcs, after, before}
-use Rattle.multi_cycle_list.proofs.Lists.{In, Below, count-same, count-other, count-in, in-count}
+use Rattle.multi_cycle_list.proofs.Lists.{In, Below, count-same, count-other, count-in}
 use Rattle.multi_cycle_list.proofs.Chain.{Link, Chain}
 use Rattle.multi_cycle_list.proofs.Rep.{Rep}
 

@@ -1,13 +1,13 @@
 -- Laws of the node bytes: what a store to a link leaves of the other links.
-use Prim.Native.Nat.{ℕ, zero, suc, _+_, _-_, _*_, _<_, _≤_}
-use mathlib.Core.Path.{_≡_, refl, sym, ap, _∙_, subst}
+use Prim.Native.Nat.{ℕ, zero, suc, _+_, _-_, _*_, _<_}
+use mathlib.Core.Path.{_≡_, _∙_}
 use mathlib.Core.Logic.{_≢_}
-use mathlib.Core.List.{List, [], _∷_, _++_}
+use mathlib.Core.List.{List, [], _∷_}
 use native.Mathlib.Omega.{arith}
 use lib.ListN.{length, getD, set, length-set}
 use lib.Seq.{getD-set-same, getD-set-other}
 use Rattle.multi_cycle_list.specs.Nodes.{next, prev}
-use Rattle.multi_cycle_list.specs.Inner.{setNext, setPrev, Within, unbindB, bindAfterB, bindBeforeB}
+use Rattle.multi_cycle_list.specs.Inner.{setNext, setPrev, Within, unbindB}
 
 pub next-same : (s : List ℕ) (i v : ℕ) → 2 + 2 * i < length s → next (setNext s i v) i ≡ v
 next-same s i v h = getD-set-same s (2 + 2 * i) v 0 h

@@ -1,14 +1,13 @@
 -- Chains of links: from the node a by the entries es to the node b, each link both ways. The entry e is the node C + e.
-use Prim.Native.Nat.{ℕ, zero, suc, _+_, _-_, _*_, _<_, _≤_, zero-le}
+use Prim.Native.Nat.{ℕ, suc, _+_, _-_, _<_}
 use mathlib.Core.Path.{_≡_, refl, sym, ap, _∙_, subst}
 use mathlib.Core.Logic.{_≢_, _⊎_, inl, inr, ⊎-elim}
 use mathlib.Core.List.{List, [], _∷_, _++_}
 use native.Mathlib.Omega.{arith}
 use native.Mathlib.Decide.{ℕ-discrete}
-use native.Mathlib.Nat.{not-suc-le-zero}
 use lib.ListN.{length}
 use Rattle.multi_cycle_list.specs.Lists.{without}
-use Rattle.multi_cycle_list.proofs.Lists.{In, Below, NoDup, without-same, without-other, in-without, of-without, pigeon}
+use Rattle.multi_cycle_list.proofs.Lists.{In, Below, NoDup, without-same, without-other}
 
 abbrev pub Link : (ℕ → ℕ) → (ℕ → ℕ) → ℕ → ℕ → Type 0
 Link nx pv a b = (nx a ≡ b) × (pv b ≡ a)

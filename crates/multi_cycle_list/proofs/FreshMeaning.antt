@@ -1,22 +1,19 @@
 -- Fresh bytes are whole, and every class is empty.
-use Prim.Native.Nat.{ℕ, zero, suc, _+_, _-_, _*_, _<_, _≤_, zero-le}
-use mathlib.Core.Path.{_≡_, refl, sym, ap, _∙_, subst}
-use mathlib.Core.Logic.{_≢_, _⊎_, inl, inr, ⊎-elim}
-use mathlib.Core.List.{List, [], _∷_, _++_, map}
-use mathlib.Core.Bool.{Bool, true, false, cond, _&&_}
+use Prim.Native.Nat.{ℕ, zero, suc, _+_, _-_, _*_, _<_, _≤_}
+use mathlib.Core.Path.{_≡_, sym, ap, _∙_}
+use mathlib.Core.Logic.{inr}
+use mathlib.Core.List.{List, []}
+use mathlib.Core.Bool.{true}
 use native.Mathlib.Omega.{arith}
 use native.Mathlib.Decide.{ℕ-discrete}
 use native.Mathlib.Nat.{not-suc-le-zero}
-use lib.ListN.{length, getD, set, length-set}
+use lib.ListN.{length, set, length-set}
 use lib.Seq.{getD-set-same, getD-set-other}
-use borrow.Author.Tests.{le-leb, eq-eqb}
 use Rattle.multi_cycle_list.specs.Nodes.{classes, entries, next, prev, wholeB, listsOf, listOf}
 use Rattle.multi_cycle_list.specs.Inner.{setNext, setPrev, aloneTo}
 use Rattle.state.specs.Seq.{each}
 use Rattle.multi_cycle_list.proofs.Bytes.{next-same, next-other, next-setPrev, prev-same, prev-other, prev-setNext}
 use Rattle.multi_cycle_list.proofs.Stores.{Same, same-more, same-self}
-use Rattle.multi_cycle_list.proofs.Rep.{Rep}
-use Rattle.multi_cycle_list.proofs.WholeTools.{Sizes}
 use Rattle.multi_cycle_list.proofs.Sound.{Stands, complete, list-is}
 use Rattle.state.proofs.Seq.{each-same}
 

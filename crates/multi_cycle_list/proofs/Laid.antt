@@ -1,9 +1,9 @@
 -- Whole bytes are the bytes of fair lists, and of one alone.
 use Prim.Native.Nat.{ℕ, zero, suc, _+_, _-_, _*_, _<_, _≤_, zero-le}
 use mathlib.Core.Path.{_≡_, refl, sym, ap, _∙_, subst}
-use mathlib.Core.Logic.{_≢_, _⊎_, inl, inr, ⊎-elim}
-use mathlib.Core.List.{List, [], _∷_, _++_}
-use mathlib.Core.Bool.{Bool, true, false, cond}
+use mathlib.Core.Logic.{_⊎_, inl, inr, ⊎-elim}
+use mathlib.Core.List.{List, [], _∷_}
+use mathlib.Core.Bool.{true}
 use native.Mathlib.Omega.{arith}
 use native.Mathlib.Decide.{ℕ-discrete, decLt}
 use native.Mathlib.Nat.{not-suc-le-zero}
@@ -13,11 +13,11 @@ use Rattle.multi_cycle_list.specs.Nodes.{classes, entries, next, prev, w
 use Rattle.state.specs.Seq.{each}
 use Rattle.state.specs.Result.{Bytes}
 use Rattle.multi_cycle_list.specs.Lists.{Lists, Fair, count, counts}
-use Rattle.multi_cycle_list.specs.Laid.{Arc, arc, arcs, after, before, twos, laidOut, laid}
-use Rattle.multi_cycle_list.proofs.Lists.{In, Below, NoDup, count-same, count-other, count-in, in-count}
+use Rattle.multi_cycle_list.specs.Laid.{Arc, arcs, after, before, twos, laidOut, laid}
+use Rattle.multi_cycle_list.proofs.Lists.{In, Below, NoDup, count-same, count-other, count-in}
 use Rattle.multi_cycle_list.proofs.Chain.{Link, Chain, chain-nodup, one-class}
-use Rattle.multi_cycle_list.proofs.Rep.{Rep, rep-length}
-use Rattle.multi_cycle_list.proofs.WholeTools.{Sizes, whole-sizes, allowed-of, of-allowed}
+use Rattle.multi_cycle_list.proofs.Rep.{Rep}
+use Rattle.multi_cycle_list.proofs.WholeTools.{whole-sizes, allowed-of, of-allowed}
 use Rattle.multi_cycle_list.proofs.Sound.{Stands, linked-in, sound, complete, list-is}
 use Rattle.state.proofs.Seq.{each-same, getD-each, each-getD, length-each}
 use Rattle.multi_cycle_list.proofs.Arcs.{arcs-rep}

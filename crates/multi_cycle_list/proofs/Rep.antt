@@ -1,17 +1,16 @@
 -- The links nx, pv of C classes and E entries stand for the lists ls: each class heads the cycle of its list, and each entry is in a list or alone.
-use Prim.Native.Nat.{ℕ, zero, suc, _+_, _-_, _*_, _<_, _≤_, zero-le}
+use Prim.Native.Nat.{ℕ, _+_, _-_, _<_, _≤_}
 use mathlib.Core.Path.{_≡_, refl, sym, ap, _∙_, subst}
 use mathlib.Core.Logic.{_≢_, _⊎_, inl, inr, ⊎-elim}
 use mathlib.Core.List.{List, [], _∷_, _++_}
 use mathlib.Core.Bool.{cond}
 use native.Mathlib.Omega.{arith}
 use native.Mathlib.Decide.{ℕ-discrete, decLt}
-use native.Mathlib.Nat.{not-suc-le-zero, add-sub-of-le}
 use lib.ListN.{length}
 use lib.Dec.{eqb}
 use borrow.Author.Tests.{eq-eqb, ne-eqb}
 use Rattle.multi_cycle_list.specs.Lists.{without}
-use Rattle.multi_cycle_list.proofs.Lists.{In, Below, NoDup, without-same, without-other, in-without, of-without, pigeon, below-of-without, in-snoc-old, in-snoc-new, below-snoc}
+use Rattle.multi_cycle_list.proofs.Lists.{In, Below, in-without, pigeon, below-of-without, in-snoc-old, in-snoc-new, below-snoc}
 use Rattle.multi_cycle_list.proofs.Chain.{Link, Chain, chain-nodup, out-at, out-in, back-at, back-in, Unbinds, link-kept, chain-without, BindsAfter, after-link, after-chain, after-front, BindsBefore, before-link, before-chain, before-back}
 
 pub record Rep (C E : ℕ) (nx pv : ℕ → ℕ) (ls : ℕ → List ℕ) : Type 0 where

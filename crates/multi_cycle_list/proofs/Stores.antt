@@ -1,12 +1,12 @@
 -- The stores of unbind and bind, as facts about the links.
-use Prim.Native.Nat.{ℕ, zero, suc, _+_, _-_, _*_, _<_, _≤_, zero-le}
-use mathlib.Core.Path.{_≡_, refl, sym, ap, _∙_, subst}
-use mathlib.Core.Logic.{_≢_, _⊎_, inl, inr, ⊎-elim}
-use mathlib.Core.List.{List, [], _∷_, _++_}
+use Prim.Native.Nat.{ℕ, _+_, _-_, _*_, _<_, _≤_}
+use mathlib.Core.Path.{_≡_, refl, sym, ap, _∙_}
+use mathlib.Core.Logic.{_≢_}
+use mathlib.Core.List.{List}
 use native.Mathlib.Omega.{arith}
 use native.Mathlib.Decide.{ℕ-discrete}
-use lib.ListN.{length, getD, set, length-set}
-use lib.Seq.{getD-set-same, getD-set-other}
+use lib.ListN.{length, set, length-set}
+use lib.Seq.{getD-set-other}
 use Rattle.multi_cycle_list.specs.Nodes.{classes, entries, next, prev}
 use Rattle.multi_cycle_list.specs.Inner.{setNext, setPrev, unbindB, bindAfterB, bindBeforeB}
 use Rattle.multi_cycle_list.proofs.Bytes.{next-same, next-other, next-setPrev, prev-same, prev-other, prev-setNext}

@@ -1,26 +1,25 @@
 -- The whole test's steps, in the code's order.
 use Prim.Native.Nat.{ℕ, suc, _+_, _-_, _<_, _≤_}
-use mathlib.Core.Path.{_≡_, refl, sym, ap, _∙_, subst}
+use mathlib.Core.Path.{_≡_, refl, sym, ap, _∙_}
 use mathlib.Core.Logic.{_≢_}
-use mathlib.Core.List.{List, [], _∷_}
+use mathlib.Core.List.{List}
 use mathlib.Core.Option.{Option, none, some}
-use mathlib.Core.Bool.{Bool, true, false, not, cond, _&&_, _||_}
+use mathlib.Core.Bool.{true, false, _&&_}
 use native.Mathlib.Omega.{arith}
 use native.Mathlib.Decide.{ℕ-discrete}
 use lib.Dec.{eqb, leb, ltb}
 use lib.ListN.{length, getD}
-use borrow.Author.Tests.{ltb-true, leb-true, eqb-true, lt-ltb, le-ltb, le-leb, eq-eqb, ne-eqb}
+use borrow.Author.Tests.{ltb-true, leb-true, eqb-true, le-leb, eq-eqb, ne-eqb}
 use Rattle.state.specs.Seq.{allB, each}
-use Rattle.state.proofs.Tests.{and-l, and-r, and4, and-true, not-both, false-of, same-test, by-cond}
+use Rattle.state.proofs.Tests.{and-r, and4, not-both, false-of, same-test, by-cond}
 use Rattle.multi_cycle_list.specs.Lists as lists
 use Rattle.multi_cycle_list.specs.Nodes as nodes
 use Rattle.multi_cycle_list.specs.Inner.{Marked}
 use Rattle.multi_cycle_list.proofs.Laid.{read-fair}
 use Rattle.entry_tree.specs.Places as tree
 use Rattle.regular.specs.Registry as registry
-use Rattle.entry_tree.specs.Walks.{walkOf}
 use Rattle.entry_tree.specs.Testing.{markOf, pairsB, seenAfter, pointedB}
-use Rattle.regular.specs.Registry.{Registry, lastB}
+use Rattle.regular.specs.Registry.{lastB}
 use Rattle.regular.specs.Bytes.{activePart, inactivePart, queuePart, read, sizesB, wholeB}
 use Rattle.regular.specs.Inner.{settledB}
 use Rattle.regular.proofs.Testing.{Marks, Tested, sound, complete}

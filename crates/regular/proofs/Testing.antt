@@ -1,20 +1,20 @@
 -- The code's tests come to *whole* as specs/Registry.antt has it.
 use Prim.Native.Nat.{ℕ, suc, _+_, _-_, _<_, _≤_}
-use mathlib.Core.Path.{_≡_, refl, sym, ap, _∙_, subst}
-use mathlib.Core.Logic.{_≢_, _⊎_, inl, inr, ⊎-elim}
+use mathlib.Core.Path.{_≡_, refl, sym, ap, _∙_}
+use mathlib.Core.Logic.{_⊎_, inl, inr, ⊎-elim}
 use mathlib.Core.List.{List, [], _∷_}
 use mathlib.Core.Option.{Option, none, some}
-use mathlib.Core.Bool.{Bool, true, false, not, cond, _&&_, _||_}
+use mathlib.Core.Bool.{Bool, true, not, _&&_, _||_}
 use native.Mathlib.Omega.{arith}
 use native.Mathlib.Decide.{ℕ-discrete}
-use lib.Dec.{eqb, leb, ltb}
-use lib.ListN.{length, getD}
+use lib.Dec.{eqb, leb}
+use lib.ListN.{length}
 use borrow.Author.Tests.{ltb-true, leb-true, eqb-true, lt-ltb, le-leb, eq-eqb, ne-eqb}
 use Rattle.state.specs.Seq.{allB}
 use Rattle.state.proofs.Tests.{and-l, and-r, and-true, same-test, or-split}
 use Rattle.state.proofs.Seq.{all-true, all-at}
 use Rattle.multi_cycle_list.specs.Lists as lists
-use Rattle.entry_tree.specs.Pairs.{Pair, count, isEntry, hasEntry, inRange, inOrder, past}
+use Rattle.entry_tree.specs.Pairs.{Pair, count, isEntry, inRange, inOrder, past}
 use Rattle.entry_tree.specs.Walks.{walkB}
 use Rattle.entry_tree.specs.Testing.{markOf, pairsB, seenAfter, gapsB}
 use Rattle.entry_tree.proofs.Passing.{Pass, count-own, range-inside, pass-of, after-in, after-out, after-length, of-pass, order-same}

@@ -1,22 +1,18 @@
 -- One law for each return of the functions that test wholeness.
 use Prim.Native.Nat.{ℕ, suc, _+_, _-_, _<_, _≤_}
-use mathlib.Core.Path.{_≡_, refl, sym, ap, _∙_, subst}
+use mathlib.Core.Path.{_≡_, sym, ap, _∙_}
 use mathlib.Core.Logic.{_≢_}
-use mathlib.Core.List.{List, [], _∷_}
-use mathlib.Core.Option.{Option, none, some}
-use mathlib.Core.Bool.{Bool, true, false, not, cond, _&&_, _||_}
+use mathlib.Core.List.{List}
+use mathlib.Core.Bool.{true, false, _||_}
 use native.Mathlib.Omega.{arith}
 use native.Mathlib.Decide.{ℕ-discrete}
-use lib.Dec.{eqb, leb, ltb}
-use lib.ListN.{length, getD, set, take, drop, length-set, drop-of-length-le}
-use lib.Seq.{getD-take, getD-drop, drop-cons}
-use borrow.Author.Tests.{lt-ltb, le-ltb, le-leb, lt-leb, eq-eqb, ne-eqb}
-use Rattle.state.specs.Seq.{allB}
-use Rattle.state.proofs.Tests.{and-r}
-use Rattle.state.proofs.Seq.{all-true, all-false}
+use lib.Dec.{eqb, leb}
+use lib.ListN.{getD, take, drop}
+use lib.Seq.{getD-take, getD-drop}
+use borrow.Author.Tests.{le-leb, lt-leb, eq-eqb, ne-eqb}
 use Rattle.multi_cycle_list.specs.Nodes as nodes
 use Rattle.entry_tree.specs.Pairs.{Pair, past}
-use Rattle.entry_tree.specs.Places.{size, entryAt, subjectAt, pairAt, read}
+use Rattle.entry_tree.specs.Places.{size, subjectAt, read}
 use Rattle.entry_tree.proofs.Lists.{none as no-pair, past-none, past-last}
 use Rattle.entry_tree.proofs.Reading.{read-length, read-at}
 use Rattle.regular.specs.Registry.{lastB}

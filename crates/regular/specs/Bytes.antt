@@ -4,7 +4,7 @@
 --   1032   the slot counter, low byte first
 --   1034   the last-gap flag: 0, or any other byte if it is set
 --   1035   the walk: the entry that it points at, or any byte from 128 on if none
-use Prim.Native.Nat.{ℕ, suc, _+_, _*_, _/_, _%_}
+use Prim.Native.Nat.{ℕ, _+_, _*_, _/_, _%_}
 use mathlib.Core.List.{List, [], _∷_, _++_}
 use mathlib.Core.Bool.{Bool, true, false, cond, not, _&&_}
 use lib.Dec.{eqb, leb}

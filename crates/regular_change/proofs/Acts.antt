@@ -1,19 +1,18 @@
 -- What each change leaves: one law for each, from the parts that it stores.
-use Prim.Native.Nat.{ℕ, zero, suc, _+_, _-_, _*_, _/_, _%_, _<_, _≤_}
+use Prim.Native.Nat.{ℕ, suc, _+_, _-_, _/_, _%_, _<_, _≤_}
 use mathlib.Core.Path.{_≡_, refl, sym, ap, _∙_, subst}
 use mathlib.Core.Logic.{_≢_}
 use mathlib.Core.List.{List, [], _∷_, _++_}
-use mathlib.Core.Option.{Option, none, some}
-use mathlib.Core.Bool.{Bool, true, false, not, cond, _&&_, _||_}
+use mathlib.Core.Option.{Option, none}
+use mathlib.Core.Bool.{Bool, true, false, not, cond, _||_}
 use native.Mathlib.Omega.{arith}
-use native.Mathlib.Decide.{ℕ-discrete, decLt}
-use lib.Dec.{eqb, leb, ltb}
-use lib.ListN.{length, getD, set, take, drop, replicate, length-replicate, getD-replicate, List·getD-eq-default}
+use native.Mathlib.Decide.{ℕ-discrete}
+use lib.Dec.{ltb}
+use lib.ListN.{length, getD, set, drop, replicate, length-replicate, getD-replicate}
 use lib.Seq.{set-getD, getD-take, getD-drop}
-use borrow.Author.Tests.{not-true, ltb-true, ltb-false, lt-ltb, le-ltb, eq-eqb, ne-eqb}
+use borrow.Author.Tests.{not-true, ltb-true, ltb-false, lt-ltb, eq-eqb, ne-eqb}
 use borrow.Rule.Slice.PartMut.{putMid}
 use Rattle.state.specs.Result.{Bytes}
-use Rattle.state.specs.Seq.{each}
 use Rattle.state.proofs.Filled.{zero-bytes}
 use Rattle.state.proofs.Tests.{by-cond, and-r}
 use Rattle.multi_cycle_list.specs.Lists as lists
@@ -23,28 +22,28 @@ use Rattle.multi_cycle_list.specs.Nodes as nodes
 use Rattle.multi_cycle_list.specs.Laid as listsLaid
 use Rattle.multi_cycle_list.proofs.Lists.{without-none, in-count, without-same, count-same, count-gone, count-kept}
 use Rattle.multi_cycle_list.proofs.Laid as queues
-use Rattle.multi_cycle_list.proofs.Changes.{remove-fair, back-fair, empty-fair}
-use Rattle.entry_tree.specs.Pairs.{Pair, pair, bit, count, isEntry, onSubject, hasEntry, hasSubject, inserted, without, position, placeOf, Place, past, inOrder}
+use Rattle.multi_cycle_list.proofs.Changes.{remove-fair}
+use Rattle.entry_tree.specs.Pairs.{Pair, pair, bit, count, isEntry, hasEntry, hasSubject, inserted, without, position, placeOf, Place, past}
 use Rattle.entry_tree.specs.Places as tree
 use Rattle.entry_tree.specs.Inner.{removedAt, walkAt, withWalkPast}
 use Rattle.entry_tree.proofs.Laid as trees
-use Rattle.entry_tree.proofs.Changes.{removed-without, removed-length, inserted-length}
-use Rattle.entry_tree.proofs.Reading.{read-length, read-any, read-place-subject}
-use Rattle.entry_tree.specs.Walks.{nextOn, movedPast, walkOf, walkOver}
+use Rattle.entry_tree.proofs.Changes.{removed-length, inserted-length}
+use Rattle.entry_tree.proofs.Reading.{read-length, read-place-subject}
+use Rattle.entry_tree.specs.Walks.{nextOn, movedPast, walkOver}
 use Rattle.state.proofs.Bytes.{bytes-part}
 use Rattle.entry_tree.proofs.Finding.{place-in, place-next, removed-is}
 use Rattle.entry_tree.proofs.Walking.{walk-past, walk-stays, past-here, past-other, find-rest}
 use Rattle.entry_tree.proofs.Once.{empty-tree}
 use Rattle.regular.specs.Registry.{Registry, fresh, queued}
 use Rattle.regular.specs.Bytes.{activePart, inactivePart, queuePart, read, wholeB, flagOver, queueOf, laid}
-use Rattle.regular.specs.Steps.{waits, joins, leavesInactive, leaves, Gaps, gaps, headGaps, isHead, newMark, goesOn, withCleanUp, Step, stepBy, innerStep, activates, becomesActive}
-use Rattle.regular.proofs.Parts.{Joined, put-active, put-inactive, put-queue, set-tail, tail-at, active-is, inactive-is, queue-is}
+use Rattle.regular.specs.Steps.{waits, joins, leavesInactive, leaves, Gaps, gaps, headGaps, isHead, newMark, goesOn, withCleanUp, Step, innerStep, activates, becomesActive}
+use Rattle.regular.proofs.Parts.{Joined, put-active, put-inactive, put-queue, set-tail, tail-at, active-is, queue-is}
 use Rattle.regular.proofs.Grounds.{sizes-of}
 use Rattle.regular_fair.proofs.Facts.{Facts, at-most}
 use Rattle.entry_tree.proofs.Count.{few-entries}
-use Rattle.regular_fair.proofs.Places.{mark-range, next-range}
+use Rattle.regular_fair.proofs.Places.{mark-range}
 use Rattle.regular_fair.proofs.Poll.{step-front, step-last, step-next}
-use Rattle.regular_fair.proofs.Reading.{parts, read-facts, queue-fair}
+use Rattle.regular_fair.proofs.Reading.{parts, read-facts}
 use Rattle.regular_fair.proofs.Round.{tailOf, tailLaid, split-long, split-whole, laid-joined, laid-from, queue-read, active-self, inactive-self, queue-self, low-self, high-self, flag-self, walk-self}
 use Rattle.regular_change.specs.Inner.{fromAt, gapBefore, gapOf, more, withSlots, withFlag}
 use Rattle.regular.specs.declared.Popped.the-variants as pops

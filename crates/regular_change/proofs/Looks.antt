@@ -1,28 +1,23 @@
 -- What whole bytes tell of their parts: places, marks and gaps.
-use Prim.Native.Nat.{ℕ, zero, suc, _+_, _-_, _<_, _≤_}
+use Prim.Native.Nat.{ℕ, suc, _+_, _-_, _<_, _≤_}
 use mathlib.Core.Path.{_≡_, refl, sym, ap, _∙_}
-use mathlib.Core.List.{List, [], _∷_, _++_}
-use mathlib.Core.Option as opt
+use mathlib.Core.List.{List, [], _∷_}
 use mathlib.Core.Logic.{_≢_}
 use mathlib.Core.Bool.{Bool, true, false, cond, not, _&&_, _||_, and-false}
 use native.Mathlib.Omega.{arith}
-use native.Mathlib.Nat.{not-suc-le-zero}
-use lib.Dec.{eqb, leb, ltb}
-use lib.ListN.{length, getD, drop, length-append, drop-of-length-le}
-use lib.Seq.{drop-cons}
-use borrow.Author.Tests.{ltb-true, lt-ltb, le-ltb, le-leb, lt-leb, eq-eqb, ne-eqb}
+use lib.Dec.{leb, ltb}
+use lib.ListN.{length, drop}
+use borrow.Author.Tests.{lt-ltb, le-ltb, le-leb, lt-leb, eq-eqb, ne-eqb}
 use Rattle.state.specs.Seq.{each}
 use Rattle.multi_cycle_list.specs.Lists as lists
 use Rattle.multi_cycle_list.specs.Lists.{first}
 use Rattle.multi_cycle_list.specs.declared.inner.MaybeEntry.the-variants.{Some}
 use Rattle.multi_cycle_list.specs.Nodes as nodes
-use Rattle.entry_tree.specs.Pairs.{Pair, pair, Place, bit, count, any, position, isEntry, hasEntry, without, placeOf}
+use Rattle.entry_tree.specs.Pairs.{Pair, Place, count, position, isEntry, hasEntry, placeOf}
 use Rattle.entry_tree.specs.Places as tree
 use Rattle.entry_tree.specs.Places.{size, entryAt, subjectAt, pairAt}
-use Rattle.entry_tree.specs.Inner.{removedAt}
-use Rattle.entry_tree.proofs.Lists.{none, place-rest}
-use Rattle.entry_tree.proofs.Reading.{read-length, read-at, read-any, read-place-subject, read-place-first, read-place-from}
-use Rattle.entry_tree.proofs.Changes.{range-at, removed-without}
+use Rattle.entry_tree.proofs.Reading.{read-length, read-at, read-place-subject, read-place-first, read-place-from}
+use Rattle.entry_tree.proofs.Changes.{range-at}
 use Rattle.entry_tree.proofs.Finding.{place-rest-at, drop-end, drop-next, entry-place, entry-counts, few-others}
 use Rattle.regular.specs.Registry.{queued}
 use Rattle.regular.specs.Steps.{newMark}
@@ -30,7 +25,7 @@ use Rattle.regular.specs.Bytes.{activePart, inactivePart, queuePart, read, whol
 use Rattle.regular.proofs.Grounds.{sizes-of, two-counts}
 use Rattle.regular.proofs.Parts as parts
 use Rattle.regular.proofs.Testing.{Conditions, conditions}
-use Rattle.entry_tree.proofs.Count.{same, diff, compareEq, eqb-self, any-true, any-false, true-any, count-append, few-entries}
+use Rattle.entry_tree.proofs.Count.{same, diff, compareEq, any-true, any-false, true-any}
 use Rattle.regular_fair.proofs.Queue.{count-first}
 use Rattle.regular_fair.proofs.Facts.{Facts, at-most}
 use Rattle.regular_fair.proofs.Reading as reading

@@ -1,7 +1,7 @@
 -- What the inner functions answer and store, as the code goes. No contract of a public call cites this.
 use Prim.Native.Nat.{ℕ, suc, _-_, _/_, _%_}
 use mathlib.Core.List.{List, [], _∷_}
-use mathlib.Core.Bool.{Bool, true, cond}
+use mathlib.Core.Bool.{Bool, cond}
 use lib.Dec.{eqb}
 use lib.ListN.{getD, set}
 use Rattle.entry_tree.specs.Pairs.{Pair, Place}

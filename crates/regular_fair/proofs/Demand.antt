@@ -9,7 +9,7 @@ use lib.ListN.{length}
 use Rattle.state.specs.Result.{Result, answer, left}
 use Rattle.state.proofs.Tests.{not-both, same-test}
 use Rattle.multi_cycle_list.specs.Lists as lists
-use Rattle.entry_tree.specs.Pairs.{Pair, pair, bit, count, isEntry, onSubject, hasSubject, without}
+use Rattle.entry_tree.specs.Pairs.{Pair, bit, count, isEntry, onSubject, hasSubject, without}
 use Rattle.entry_tree.proofs.Changes.{without-count, without-count-other, without-length}
 use Rattle.regular.specs.Registry.{Registry, fresh}
 use Rattle.regular.specs.Steps.{Call, PollPop, step, pollPop}

@@ -2,17 +2,16 @@
 use Prim.Native.Nat.{ℕ, zero, suc, _+_, _*_, _/_, _%_, _<_, _≤_}
 use mathlib.Core.Path.{_≡_, refl, sym, ap, _∙_, subst}
 use mathlib.Core.List.{List, [], _∷_, _++_}
-use mathlib.Core.Option.{Option, none, some}
+use mathlib.Core.Option.{some}
 use mathlib.Core.Bool.{Bool, true, false, not, cond}
 use native.Mathlib.Omega.{arith}
-use native.Mathlib.Decide.{decLt}
 use lib.Dec.{eqb, ltb}
 use lib.ListN.{length, getD, replicate, length-replicate}
-use borrow.Author.Tests.{ltb-false, eqb-true, eq-eqb, lt-ltb, le-ltb, ne-eqb}
+use borrow.Author.Tests.{ltb-false, eqb-true, eq-eqb, ne-eqb}
 use Rattle.state.proofs.Filled.{zero-bytes}
 use Rattle.state.specs.Lengths.{regularLength}
 use Rattle.state.specs.Result.{refuse, done, Bytes}
-use Rattle.state.proofs.Calls.{Kept, kept}
+use Rattle.state.proofs.Calls.{means-of}
 use Rattle.multi_cycle_list.specs.Lists as plain
 use Rattle.multi_cycle_list.specs.Nodes as nodes
 use Rattle.multi_cycle_list.specs.Laid as lists
@@ -26,8 +25,8 @@ use Rattle.entry_tree.proofs.Walking.{walk-back, walk-byte}
 use Rattle.regular.specs.Registry as registry
 use Rattle.regular.specs.Registry.{Registry, fresh}
 use Rattle.regular.specs.Bytes.{activePart, inactivePart, queuePart, read, wholeB, flagOver, queueOf, laid}
-use Rattle.regular.specs.Steps.{Call, step}
-use Rattle.regular.specs.Calls.{opening, on}
+use Rattle.regular.specs.Steps.{step}
+use Rattle.regular.specs.Calls.{opening}
 use Rattle.regular_fair.specs.Means.{Fair, Sized, RegularMeans}
 use Rattle.regular.specs.declared.Answer.{Answer}
 use Rattle.regular.specs.declared.Answer.the-variants.{Refused, Done}
@@ -139,9 +138,6 @@ module _ (m : Registry) (b : List ℕ) (y : Bytes b) (f : Fair m) (l : length b 
 read-fair : (b : List ℕ) → Bytes b → wholeB b ≡ true → Fair (read b)
 read-fair b y h = whole-fair (read b) (read-whole b y h)
 
-keeps-all : (k : Call) (b : List ℕ) → Bytes b → wholeB b ≡ true → Kept wholeB read laid b (on (step k) b) (step k (read b))
-keeps-all k b y h = kept wholeB read laid (Refused 1) Fair Sized laid-bytes laid-whole read-laid (step k) b y h (step-fair k (read b) (read-fair b y h)) (parts b h .bytes)
-
 open-inv : (p q : Bool) (m₀ : Registry) (a : Answer) (m : Registry) → cond p (cond q (refuse (Refused 3)) (done Done m₀)) (refuse (Refused 1)) ≡ done a m → (p ≡ true) × ((q ≡ false) × (m₀ ≡ m))
 open-inv true false m₀ a m h = (refl, (refl, cc))
 open-inv true true m₀ a m h = absurd (let z : _≡_ {A = ℕ} 0 1 = cc in omega arith)
@@ -161,17 +157,5 @@ pub means : RegularMeans
 means =
     record {
       opened = opened;
-      meaning = record {
-        whole-fair = read-fair;
-        whole-sized = λ b h. parts b h .bytes;
-        laid-read = laid-read;
-        laid-bytes = laid-bytes;
-        laid-whole = laid-whole;
-        read-laid = read-laid;
-        step-fair = step-fair;
-        step-sized = λ k m n f z. z;
-        keeps-bytes = λ k b y h. keeps-all k b y h .are-bytes;
-        keeps-whole = λ k b y h. keeps-all k b y h .are-whole;
-        keeps-meaning = λ k b y h. keeps-all k b y h .meaning;
-      };
+      meaning = means-of wholeB read laid (Refused 1) Fair Sized laid-bytes laid-whole read-laid step read-fair (λ b h. parts b h .bytes) laid-read step-fair (λ k m n f z. z);
     }

@@ -2,16 +2,12 @@
 use Prim.Native.Nat.{ℕ, suc, _≤_, _<_}
 use mathlib.Core.Path.{_≡_, refl, sym}
 use mathlib.Core.Bool.{Bool, _&&_}
-use mathlib.Core.Option.{Option, none, some}
 use mathlib.Core.List.{List, [], _∷_}
 use native.Mathlib.Omega.{arith}
-use lib.Dec.{eqb, ltb}
-use Rattle.state.proofs.Tests.{by-cond}
 use Rattle.multi_cycle_list.specs.Lists as lists
-use Rattle.entry_tree.specs.Pairs.{Pair, pair, count, isEntry, onSubject, without, inserted, find, placeOf, past}
-use Rattle.entry_tree.specs.Walks.{firstOn, nextOn}
+use Rattle.entry_tree.specs.Pairs.{Pair, count, isEntry, onSubject, without, inserted, find, placeOf, past}
 use Rattle.regular.specs.Registry.{Registry}
-use Rattle.entry_tree.proofs.Count.{same, diff, below, above, compareEq, compareLe, eqb-self, both-le, count-self, count-subject, count-off}
+use Rattle.entry_tree.proofs.Count.{same, diff, below, above, compareEq, compareLe, eqb-self, both-le, count-subject, count-off}
 use Rattle.regular_fair.proofs.Facts.{Facts, Ordered, onil, ocons}
 use Rattle.regular_fair.proofs.Queue.{count-first}
 use Rattle.regular_fair.proofs.Good.{Good, gnil, gcons, find-from}

@@ -1,15 +1,15 @@
 -- A poll: its inner steps keep the invariant, and what is left to hand out grows less.
 use Prim.Native.Nat.{ℕ, zero, suc, _+_, _-_, _≤_, _<_}
 use mathlib.Core.Path.{_≡_, refl, sym, ap, _∙_}
-use mathlib.Core.Bool.{Bool, true, false, not, _&&_}
+use mathlib.Core.Bool.{Bool, true, false, _&&_}
 use mathlib.Core.List.{List, [], _∷_, _++_, map}
 use native.Mathlib.Omega.{arith}
 use lib.Dec.{leb}
 use lib.ListN.{length}
 use borrow.Author.Tests.{leb-true}
-use Rattle.state.specs.Result.{Result, done, answer, left}
+use Rattle.state.specs.Result.{Result, done}
 use Rattle.state.proofs.Tests.{not-both, and-l, and-r}
-use Rattle.entry_tree.specs.Pairs.{Pair, pair, bit, count, isEntry, onSubject, without, placeOf, past}
+use Rattle.entry_tree.specs.Pairs.{Pair, bit, count, isEntry, onSubject, without, placeOf, past}
 use Rattle.entry_tree.proofs.Changes.{inserted-count, without-none}
 use Rattle.regular.specs.Registry.{Registry}
 use Rattle.regular.specs.Steps.{PollPop, Step, withCleanUp, becomesActive, activates, stepBy, innerStep, onStep, steps, pollPop}

@@ -1,6 +1,6 @@
 -- How often an entry stands in a queue after each change.
 use Prim.Native.Nat.{ℕ, suc, _+_, _≤_}
-use mathlib.Core.Path.{_≡_, refl, sym, ap, _∙_}
+use mathlib.Core.Path.{_≡_, refl, sym, _∙_}
 use mathlib.Core.Logic.{_≢_}
 use mathlib.Core.List.{List, [], _∷_, _++_}
 use mathlib.Core.Bool.{Bool, true, false, cond}

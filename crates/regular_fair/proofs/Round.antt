@@ -1,5 +1,5 @@
 -- The registry's bytes part by part: whole bytes are those of what they mean, and what is laid reads back.
-use Prim.Native.Nat.{ℕ, zero, suc, _+_, _/_, _%_, _<_, _≤_}
+use Prim.Native.Nat.{ℕ, zero, suc, _+_, _/_, _%_, _≤_}
 use mathlib.Core.Path.{_≡_, refl, sym, ap, _∙_, subst}
 use mathlib.Core.Logic.{_⊎_, ⊎-elim}
 use mathlib.Core.List.{List, [], _∷_, _++_}
@@ -8,7 +8,7 @@ use mathlib.Core.Bool.{Bool, true, false, not}
 use native.Mathlib.Omega.{arith}
 use native.Mathlib.Decide.{decLt}
 use lib.Dec.{eqb}
-use lib.ListN.{length, getD, take, drop}
+use lib.ListN.{length, getD, drop}
 use lib.Seq.{getD-drop}
 use borrow.Author.Tests.{lt-ltb, le-ltb, ne-eqb}
 use Rattle.state.specs.Result.{Bytes}
@@ -19,7 +19,7 @@ use Rattle.multi_cycle_list.specs.Laid as lists
 use Rattle.multi_cycle_list.proofs.Laid as listsLaid
 use Rattle.entry_tree.specs.Places as tree
 use Rattle.entry_tree.proofs.Laid as treeLaid
-use Rattle.entry_tree.specs.Walks.{walkOf, walkOver}
+use Rattle.entry_tree.specs.Walks.{walkOver}
 use Rattle.state.proofs.Bytes.{bytes-part}
 use Rattle.entry_tree.proofs.Walking.{walk-same}
 use Rattle.regular.specs.Registry.{Registry}

@@ -2,8 +2,8 @@
 use Prim.Native.Nat.{ℕ, _-_, _≤_, _<_}
 use mathlib.Core.Path.{_≡_, refl, sym, _∙_}
 use mathlib.Core.Logic.{_≢_, _⊎_, inl, inr}
-use mathlib.Core.Bool.{Bool, true, false, cond, not}
-use mathlib.Core.Option.{Option, none, some}
+use mathlib.Core.Bool.{Bool, true, false, cond}
+use mathlib.Core.Option.{Option, some}
 use mathlib.Core.List.{List, [], _∷_}
 use native.Mathlib.Omega.{arith}
 use lib.Dec.{T}
@@ -13,7 +13,7 @@ use Rattle.multi_cycle_list.proofs.Lists.{count-other, count-append, count-gone
 use Rattle.entry_tree.specs.Pairs.{Pair, pair, Place, bit, count, any, isEntry, onSubject, without, inserted, placeOf, past}
 use Rattle.entry_tree.proofs.Changes.{inserted-count, without-count, without-count-other, without-count-same}
 use Rattle.entry_tree.specs.Walks.{movedPast}
-use Rattle.entry_tree.proofs.Walking.{find-after, find-rest, next-in, none-some, past-in, some-is}
+use Rattle.entry_tree.proofs.Walking.{find-after, find-rest, next-in, none-some, past-in}
 use Rattle.regular.specs.Registry.{Registry, fresh}
 use Rattle.regular.specs.Steps.{newMark, headGaps, isHead, gaps, goesOn, waits, joins, leaves, leavesInactive, withCleanUp, becomesActive, withWalk}
 use Rattle.regular.specs.declared.Answer.the-variants.{AddSubject, RemoveSubjectRange}

@@ -1,20 +1,17 @@
 -- What starting and continuing a walk come to.
-use Prim.Native.Nat.{ℕ, zero, suc, _<_, _≤_}
+use Prim.Native.Nat.{ℕ, suc, _<_, _≤_}
 use mathlib.Core.Path.{_≡_, refl, sym, ap, _∙_}
-use mathlib.Core.List.{List, [], _∷_}
+use mathlib.Core.List.{List}
 use mathlib.Core.Option.{Option, none, some}
-use mathlib.Core.Bool.{Bool, true, false, cond}
+use mathlib.Core.Bool.{Bool, true}
 use native.Mathlib.Omega.{arith}
-use native.Mathlib.Nat.{not-suc-le-zero}
-use lib.ListN.{length, getD, drop}
+use lib.ListN.{getD, drop}
 use borrow.Author.Tests.{lt-ltb, le-ltb}
 use Rattle.state.specs.Result.{refuse, done, Bytes}
 use Rattle.state.proofs.Calls.{Ends}
-use Rattle.entry_tree.specs.Pairs.{Pair, position, isEntry, onSubject, placeOf}
+use Rattle.entry_tree.specs.Pairs.{position, isEntry, placeOf}
 use Rattle.entry_tree.specs.Places as tree
-use Rattle.entry_tree.specs.Places.{size, entryAt, subjectAt}
-use Rattle.entry_tree.proofs.Lists as pairs
-use Rattle.entry_tree.proofs.Reading.{read-length, read-at}
+use Rattle.entry_tree.specs.Places.{size, subjectAt}
 use Rattle.entry_tree.specs.Walks.{firstOn, isSome, nextOn, walkOver}
 use Rattle.regular.specs.Registry.{Registry}
 use Rattle.regular.specs.Bytes.{activePart, inactivePart, queuePart, wholeB, read, laid}

@@ -2,22 +2,22 @@
 use Prim.Native.Nat.{ℕ, _≤_}
 use mathlib.Core.Path.{_≡_, refl, ap, _∙_, subst}
 use mathlib.Core.List.{List, []}
-use mathlib.Core.Bool.{Bool, true, false, cond}
+use mathlib.Core.Bool.{true}
 use native.Mathlib.Omega.{arith}
 use lib.Dec.{eqb}
 use lib.ListN.{length, replicate, length-replicate}
 use borrow.Author.Tests.{eqb-true}
 use Rattle.state.specs.Lengths.{requestsLength}
-use Rattle.state.specs.Result.{refuse, done, Bytes}
-use Rattle.state.proofs.Calls.{Kept, kept}
+use Rattle.state.specs.Result.{done, Bytes}
+use Rattle.state.proofs.Calls.{opened-is, means-of}
 use Rattle.state.proofs.Filled.{zero-bytes}
 use Rattle.entry_tree.specs.Places.{read, laid}
 use Rattle.entry_tree.proofs.Laid as tree
 use Rattle.entry_tree.proofs.Once.{few}
 use Rattle.rx_req.specs.Registry.{Registry, fresh, wholeB as fairB}
 use Rattle.rx_req.specs.Bytes.{wholeB}
-use Rattle.rx_req.specs.Steps.{Call, step}
-use Rattle.rx_req.specs.Calls.{opening, on}
+use Rattle.rx_req.specs.Steps.{step}
+use Rattle.rx_req.specs.Calls.{opening}
 use Rattle.rx_req.specs.Means.{Fair, Sized, RequestsMeans}
 use Rattle.rx_req.specs.declared.Answer.{Answer}
 use Rattle.rx_req.specs.declared.Answer.the-variants.{Refused, Done}
@@ -37,20 +37,13 @@ module _ (m : Registry) (b : List ℕ) (y : Bytes b) (f : Fair m) (l : length b 
   laid-bytes : Bytes (laid m b)
   laid-bytes = tree.bytes-laid b l m fit 511 y (omega arith) (conditions m f .range)
 
-keeps-all : (k : Call) (b : List ℕ) → Bytes b → wholeB b ≡ true → Kept wholeB read laid b (on (step k) b) (step k (read b))
-keeps-all k b y h = kept wholeB read laid (Refused 1) Fair Sized laid-bytes laid-whole read-laid (step k) b y h (step-fair k (read b) (known b h .fair)) (known b h .long)
-
-open-inv : (p : Bool) (m₀ : Registry) (a : Answer) (m : Registry) → cond p (done Done m₀) (refuse (Refused 1)) ≡ done a m → (p ≡ true) × (m₀ ≡ m)
-open-inv true m₀ a m h = (refl, cc)
-open-inv false m₀ a m h = absurd (let z : _≡_ {A = ℕ} 0 1 = cc in omega arith)
-
 fresh-fair : Fair fresh
 fresh-fair = of-conditions [] (record { range = refl; once = λ e. omega arith; rises = refl })
 
 opened : (b : ℕ) (a : Answer) (m : Registry) → opening b ≡ done a m → wholeB (laid m (replicate b 0)) ≡ true
 unfolding opening
 opened b a m q =
-    let i = open-inv (eqb b requestsLength) fresh a m q in
+    let i = opened-is (eqb b requestsLength) Done (Refused 1) fresh a m q in
     subst (λ (x : Registry). wholeB (laid x (replicate b 0)) ≡ true) (i .1)
     (laid-whole fresh (replicate b 0) (zero-bytes b) fresh-fair (length-replicate {A = ℕ} b 0 ∙ eqb-true b requestsLength (i .0)))
 
@@ -58,17 +51,5 @@ pub means : RequestsMeans
 means =
     record {
       opened = opened;
-      meaning = record {
-        whole-fair = λ b y h. known b h .fair;
-        whole-sized = λ b h. known b h .long;
-        laid-read = λ b y h. let k = known b h in tree.laid-read b (k .long) (k .few) y;
-        laid-bytes = laid-bytes;
-        laid-whole = laid-whole;
-        read-laid = read-laid;
-        step-fair = step-fair;
-        step-sized = λ k m n f z. z;
-        keeps-bytes = λ k b y h. keeps-all k b y h .are-bytes;
-        keeps-whole = λ k b y h. keeps-all k b y h .are-whole;
-        keeps-meaning = λ k b y h. keeps-all k b y h .meaning;
-      };
+      meaning = means-of wholeB read laid (Refused 1) Fair Sized laid-bytes laid-whole read-laid step (λ b y h. known b h .fair) (λ b h. known b h .long) (λ b y h. let k = known b h in tree.laid-read b (k .long) (k .few) y) step-fair (λ k m n f z. z);
     }

@@ -1,5 +1,4 @@
 -- The request registry in plain words: a map from service to entry, as pairs of entry and service by rising service; and when it is whole.
-use Prim.Native.Nat.{ℕ}
 use mathlib.Core.List.{List, []}
 use mathlib.Core.Bool.{Bool, _&&_}
 use Rattle.state.specs.Seq.{allB}

@@ -3,8 +3,9 @@ use Prim.Native.Nat.{ℕ}
 use mathlib.Core.Path.{_≡_, refl, sym, ap, _∙_}
 use mathlib.Core.Bool.{Bool, true, false, cond}
 use mathlib.Core.List.{List}
+use native.Mathlib.Omega.{arith}
 use lib.ListN.{length}
-use Rattle.state.specs.Result.{Result, refuse, done, called, answer, bytes, left, Bytes}
+use Rattle.state.specs.Result.{Result, refuse, done, called, answer, bytes, left, Bytes, Means}
 
 -- a call's end: its answer and the bytes that it leaves
 abbrev pub Ends : {A M : Type 0} → (M → List ℕ → List ℕ) → List ℕ → Result A M → A → List ℕ → Type 0
@@ -29,6 +30,11 @@ module _ {A M : Type 0} (whole : List ℕ → Bool) (read : List ℕ → M) (lai
   pub laid-out : whole b ≡ true → (a : A) (m : M) (t : List ℕ) → f (read b) ≡ done a m → t ≡ laid m b → Ends laid b (called whole read one f b) a t
   laid-out h a m t q l = let o = ends h (done a m) q in (o .0, l ∙ o .1)
 
+-- an opening that was not refused: its test held, and it left the meaning m₀
+pub opened-is : {A M : Type 0} (p : Bool) (a₀ one : A) (m₀ : M) (a : A) (m : M) → cond p (done a₀ m₀) (refuse one) ≡ done a m → (p ≡ true) × (m₀ ≡ m)
+opened-is true a₀ one m₀ a m h = (refl, cc)
+opened-is false a₀ one m₀ a m h = absurd (let z : _≡_ {A = ℕ} 0 1 = cc in omega arith)
+
 -- that a call keeps bytes bytes, whole, and their meaning follows from the rest, for every kind
 pub record Kept {A M : Type 0} (whole : List ℕ → Bool) (read : List ℕ → M) (laid : M → List ℕ → List ℕ) (b : List ℕ) (o r : Result A M) : Type 0 where
   pub are-bytes : Bytes (bytes laid b o)
@@ -47,3 +53,25 @@ module _ {A M : Type 0} (whole : List ℕ → Bool) (read : List ℕ → M) (lai
     pub kept : (f : M → Result A M) (b : List ℕ) → Bytes b → whole b ≡ true → Fair (left (read b) (f (read b))) → Sized (left (read b) (f (read b))) (length b)
         → Kept whole read laid b (called whole read one f b) (f (read b))
     kept f b y h w z = rw (is-whole whole read laid one f b h) (after b (f (read b)) y h w z)
+
+    pub means-of : {K : Type 0} (step : K → M → Result A M)
+        → ((b : List ℕ) → Bytes b → whole b ≡ true → Fair (read b)) → ((b : List ℕ) → whole b ≡ true → Sized (read b) (length b)) → ((b : List ℕ) → Bytes b → whole b ≡ true → laid (read b) b ≡ b)
+        → ((k : K) (m : M) → Fair m → Fair (left m (step k m))) → ((k : K) (m : M) (n : ℕ) → Fair m → Sized m n → Sized (left m (step k m)) n)
+        → Means whole read laid one Fair Sized step
+    means-of {K = K} step fair sized self keeps keeps-size =
+        record {
+          whole-fair = fair;
+          whole-sized = sized;
+          laid-read = self;
+          laid-bytes = laid-bytes;
+          laid-whole = laid-whole;
+          read-laid = read-laid;
+          step-fair = keeps;
+          step-sized = keeps-size;
+          keeps-bytes = λ k b y h. all k b y h .are-bytes;
+          keeps-whole = λ k b y h. all k b y h .are-whole;
+          keeps-meaning = λ k b y h. all k b y h .meaning;
+        }
+      where
+        all : (k : K) (b : List ℕ) → Bytes b → whole b ≡ true → Kept whole read laid b (called whole read one (step k) b) (step k (read b))
+        all k b y h = kept (step k) b y h (keeps k (read b) (fair b y h)) (keeps-size k (read b) (length b) (fair b y h) (sized b h))

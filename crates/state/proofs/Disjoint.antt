@@ -1,13 +1,13 @@
 -- No length is that of two kinds: the length alone tells the kind.
 -- List queues have even lengths up to 514, key queues leave 3 when divided by 4, and the registries keep clear of both.
-use Prim.Native.Nat.{ℕ, _+_, _*_, _/_, _%_, _≤_, _<_}
+use Prim.Native.Nat.{ℕ, _%_, _≤_}
 use mathlib.Core.Path.{_≡_, refl, sym, _∙_}
 use mathlib.Core.Logic.{_≢_}
-use mathlib.Core.Bool.{Bool, true, cond, _&&_}
+use mathlib.Core.Bool.{true, cond, _&&_}
 use native.Mathlib.Omega.{arith}
 use lib.Dec.{leb, eqb}
 use borrow.Author.Tests.{leb-true, ne-eqb, eq-eqb}
-use Rattle.state.specs.Lengths.{Kind, Regular, LoopBack, Requests, Messages, Responses, Lists, Keys, Has, regular, loop-back, requests, messages, responses, lists, keys, Disjoint, listsAllowed, listsLength, keysAllowed, keysLength, regularLength, loopBackLength, requestsLength, messagesLength, responsesLength, imageLength}
+use Rattle.state.specs.Lengths.{Kind, Regular, LoopBack, Requests, Messages, Responses, Lists, Keys, Has, regular, loop-back, requests, messages, responses, lists, keys, Disjoint, listsAllowed, listsLength, keysLength, regularLength, loopBackLength, requestsLength, messagesLength, responsesLength, imageLength}
 use Rattle.state.proofs.Tests.{and-l, and-r}
 
 unfoldable kindOf : ℕ → Kind

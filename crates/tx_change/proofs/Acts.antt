@@ -6,15 +6,13 @@ use mathlib.Core.List.{List, [], _∷_, _++_}
 use mathlib.Core.Option.{Option, none}
 use mathlib.Core.Bool.{true, cond}
 use native.Mathlib.Omega.{arith}
-use native.Mathlib.Decide.{ℕ-discrete}
 use lib.Dec.{eqb}
-use lib.ListN.{length, getD, set, drop, replicate, length-set, length-replicate, getD-replicate, take-append-drop}
-use lib.Seq.{ext-getD, set-getD, getD-set-same, getD-set-other}
+use lib.ListN.{length, getD, set, drop, replicate, length-replicate, getD-replicate, take-append-drop}
 use borrow.Author.Tests.{lt-ltb, le-ltb, eq-eqb, ne-eqb}
 use borrow.Rule.Slice.PartMut.{putMid}
 use Rattle.state.specs.Result.{Bytes}
 use Rattle.state.specs.Seq.{each}
-use Rattle.state.proofs.Seq.{each-same, getD-each, length-each}
+use Rattle.state.proofs.Seq.{each-same, getD-each}
 use Rattle.multi_cycle_list.specs.Lists.{Lists, without-entry, movedBack, empty}
 use Rattle.multi_cycle_list.specs.Nodes as nodes
 use Rattle.multi_cycle_list.specs.Laid as lists
@@ -23,10 +21,10 @@ use Rattle.tx_queue.specs.TxQueue.{Sets, Pick, TxQueue, fresh, place, setsOf}
 use Rattle.tx_queue.specs.Bytes.{queuePart, readyAt, startedAt, flagAt, read, wholeB, readyOver, startedOver, flagOver, pickMaskOver, mtuOf, laid}
 use Rattle.tx_queue.specs.Steps.{seated, becomes, withMask, withPick, sets}
 use Rattle.tx_queue.proofs.Parts.{Joined, split, tailOf, queueOf, readyLaid, startedLaid, flagsLaid, tailLaid, laid-joined, flag-at, put-queue, set-ready, set-started, set-flag, set-tail, laid-from}
-use Rattle.tx_queue.proofs.Reading.{known, entries-long, queues-long}
+use Rattle.tx_queue.proofs.Reading.{known, queues-long}
 use Rattle.tx_fair.proofs.Seats.{seated-long}
 use Rattle.tx_fair.proofs.Mean.{none-at}
-use Rattle.tx_fair.proofs.Reading.{split-whole, queue-read, queue-self, ready-self, started-self, flag-self, tail-self, laid-read}
+use Rattle.tx_fair.proofs.Reading.{split-whole, queue-read, queue-self, ready-self, started-self, flag-self, tail-self, laid-read, part-set, part-kept}
 use Rattle.tx_change.specs.Inner.{withQueues, withSets}
 
 -- ---- opening
@@ -45,32 +43,6 @@ pub opened-zeros : (s : List ℕ) → s ≡ replicate 677 0 → putMid 0 290 s (
 opened-zeros s q =
     opened s (ap length q ∙ length-replicate {A = ℕ} 677 0) (λ i l. ap (λ (z : List ℕ). getD z i 0) q ∙ getD-replicate {A = ℕ} 677 i 0 0 l)
     ∙ ap (λ (z : List ℕ). laid fresh z) q
-
--- ---- the sets of one entry
-
--- a part of the bytes over the entries' sets, when those of e become o
-module _ (s : List ℕ) (over : Option Sets → ℕ → ℕ) (f : ℕ → ℕ) (self : (k : ℕ) → k < 128 → f k ≡ over (setsOf (read s) k) (f k)) (e : ℕ) (he : e < 128) (o : Option Sets) where
-  put-sets : set (each 128 f) e (over o (f e)) ≡ each 128 (λ k. over (getD (set ((read s) .entries) e o) k none) (f k))
-  put-sets =
-      let g : ℕ → ℕ = λ k. over (getD (set ((read s) .entries) e o) k none) (f k) in
-      ext-getD 0 (set (each 128 f) e (over o (f e))) (each 128 g) (length-set (each 128 f) e (over o (f e)) ∙ length-each 128 f ∙ sym (length-each 128 g))
-      (λ i w.
-      let l : i < 128 = omega (arith, length-set (each 128 f) e (over o (f e)), length-each 128 f) in
-      elim (ℕ-discrete i e) [
-        | yes q ↦
-            rw q
-            (getD-set-same (each 128 f) e (over o (f e)) 0 (omega (arith, length-each 128 f))
-            ∙ ap (λ (z : Option Sets). over z (f e)) (sym (getD-set-same ((read s) .entries) e o none (omega (arith, entries-long s))))
-            ∙ sym (getD-each 128 g e 0 he))
-        | no q ↦
-            getD-set-other (each 128 f) e i (over o (f e)) 0 q ∙ getD-each 128 f i 0 l ∙ self i l
-            ∙ ap (λ (z : Option Sets). over z (f i)) (sym (getD-set-other ((read s) .entries) e i o none q))
-            ∙ sym (getD-each 128 g i 0 l)
-      ])
-
-  -- a part that keeps its byte
-  keep-sets : f e ≡ over o (f e) → each 128 f ≡ each 128 (λ k. over (getD (set ((read s) .entries) e o) k none) (f k))
-  keep-sets q = sym (set-getD (each 128 f) e 0) ∙ ap (λ (v : ℕ). set (each 128 f) e v) (getD-each 128 f e 0 he ∙ q) ∙ put-sets
 
 -- ---- whole bytes
 
@@ -119,9 +91,9 @@ module _ (s : List ℕ) (y : Bytes s) (h : wholeB s ≡ true) (e : ℕ) (he : e 
       let j4 = set-flag s3 q (set r e ready) (set t e started) f w j3 e v he in
       laid-from (becomes e from o m) s (set-tail (set s3 (546 + e) v) q (set r e ready) (set t e started) (set f e v) w j4 2 0)
       refl
-      (put-sets s readyOver (readyAt s) (ready-self s y h) e he o)
-      (put-sets s startedOver (startedAt s) (started-self s y h) e he o)
-      (ap (λ (x : ℕ). set f e (cond (eqb x 0) 1 x)) (flag-at s1 q r t f w j1 e he ∙ getD-each 128 (flagAt s) e 0 he) ∙ put-sets s flagOver (flagAt s) (flag-self s y h) e he o)
+      (part-set s (becomes e from o m) e o he refl (readyAt s) readyOver (ready-self s y h) (readyOver o (readyAt s e)) refl)
+      (part-set s (becomes e from o m) e o he refl (startedAt s) startedOver (started-self s y h) (startedOver o (startedAt s e)) refl)
+      (ap (λ (x : ℕ). set f e (cond (eqb x 0) 1 x)) (flag-at s1 q r t f w j1 e he ∙ getD-each 128 (flagAt s) e 0 he) ∙ part-set s (becomes e from o m) e o he refl (flagAt s) flagOver (flag-self s y h) (flagOver o (flagAt s e)) refl)
       refl
 
   -- the entry leaves
@@ -131,9 +103,9 @@ module _ (s : List ℕ) (y : Bytes s) (h : wholeB s ≡ true) (e : ℕ) (he : e 
       ap (λ (z : List ℕ). set z (546 + e) 0) (seat-out from 16 (omega arith) p q)
       ∙ laid-from (becomes e from none m) s (set-flag (withQueues s (seated from 16 e (m .queues))) (Q from 16) (each 128 (readyAt s)) (each 128 (startedAt s)) (each 128 (flagAt s)) (tailOf s) (J from 16) e 0 he)
       refl
-      (keep-sets s readyOver (readyAt s) (ready-self s y h) e he none refl)
-      (keep-sets s startedOver (startedAt s) (started-self s y h) e he none refl)
-      (put-sets s flagOver (flagAt s) (flag-self s y h) e he none)
+      (part-kept s (becomes e from none m) e none he refl (readyAt s) readyOver (ready-self s y h) refl)
+      (part-kept s (becomes e from none m) e none he refl (startedAt s) startedOver (started-self s y h) refl)
+      (part-set s (becomes e from none m) e none he refl (flagAt s) flagOver (flag-self s y h) 0 refl)
       (tail-self s y h ∙ ap (λ (z : Option Pick). m .mask ∷ (pickMaskOver z (getD s 675 0) ∷ (mtuOf z ∷ []))) c)
 
 -- ---- the mask and the pick

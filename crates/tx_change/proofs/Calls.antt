@@ -4,9 +4,8 @@ use mathlib.Core.Path.{_≡_, refl, sym, ap, _∙_, subst}
 use mathlib.Core.Logic.{_≢_}
 use mathlib.Core.List.{List, []}
 use mathlib.Core.Option.{Option, none, some}
-use mathlib.Core.Bool.{Bool, true, false, cond, not}
+use mathlib.Core.Bool.{Bool, true, false, cond}
 use native.Mathlib.Omega.{arith}
-use native.Mathlib.Decide.{decLt}
 use lib.Dec.{eqb, ltb}
 use lib.ListN.{getD, set}
 use borrow.Author.Tests.{lt-ltb, le-ltb, eq-eqb, ne-eqb, ltb-true, not-true, not-false}
@@ -103,12 +102,6 @@ placed-registered none k q l = absurd (omega arith)
 placed-registered (some x) k q l = refl
 
 -- ---- a pick
-
-pub mtu-small : (mtu : ℕ) → mtuB mtu ≡ true → mtu < 256
-mtu-small mtu h = elim (decLt mtu 256) [
-  | yes l ↦ l
-  | no l ↦ not-both (sym h ∙ rw (ne-eqb mtu 8 (λ q. omega arith), ne-eqb mtu 64 (λ q. omega arith)))
-]
 
 module _ (m : TxQueue) (mask mtu : ℕ) where
   pub pick-mtu : mtuB mtu ≡ false → pick mask mtu m ≡ refuse (Refused 3)

@@ -3,17 +3,17 @@ use Prim.Native.Nat.{ℕ, zero, suc, _+_, _<_}
 use mathlib.Core.Path.{_≡_, refl, sym, ap, _∙_, subst}
 use mathlib.Core.List.{List, [], _∷_, _++_}
 use mathlib.Core.Option.{Option, none, some}
-use mathlib.Core.Bool.{Bool, true, false, cond}
+use mathlib.Core.Bool.{true}
 use native.Mathlib.Omega.{arith}
 use native.Mathlib.Decide.{decLt}
 use lib.Dec.{eqb, ltb}
 use lib.ListN.{length, getD, replicate, length-replicate}
 use borrow.Author.Tests.{eqb-true, ne-eqb}
 use Rattle.state.specs.Lengths.{responsesLength}
-use Rattle.state.specs.Result.{refuse, done, Bytes}
+use Rattle.state.specs.Result.{done, Bytes}
 use Rattle.state.specs.Seq.{each}
 use Rattle.state.proofs.Bytes.{bytes-append}
-use Rattle.state.proofs.Calls.{Kept, kept}
+use Rattle.state.proofs.Calls.{opened-is, means-of}
 use Rattle.state.proofs.Filled.{zero-bytes}
 use Rattle.state.proofs.Seq.{each-same, each-getD, getD-each}
 use Rattle.state.proofs.Tests.{and-l, not-both}
@@ -25,8 +25,8 @@ use Rattle.multi_cycle_list.proofs.Laid as listsLaid
 use Rattle.tx_queue.specs.TxQueue as queue
 use Rattle.tx_queue.specs.TxQueue.{Sets, Pick, TxQueue, fresh, setsOf, firstQueue, mtuB, pickB}
 use Rattle.tx_queue.specs.Bytes.{queuePart, readyAt, startedAt, flagAt, setsAt, pickOf, read, wholeB, readyOver, startedOver, flagOver, pickMaskOver, mtuOf, laid}
-use Rattle.tx_queue.specs.Steps.{Call, step}
-use Rattle.tx_queue.specs.Calls.{opening, on}
+use Rattle.tx_queue.specs.Steps.{step}
+use Rattle.tx_queue.specs.Calls.{opening}
 use Rattle.tx_queue.specs.declared.Answer.{Answer}
 use Rattle.tx_queue.specs.declared.Answer.the-variants.{Refused, Done}
 use Rattle.tx_queue.proofs.Parts.{join, Joined, queue-is, ready-at, started-at, flag-at, tail-at, long, queueOf, readyLaid, startedLaid, flagsLaid, tailLaid, laid-joined}
@@ -79,7 +79,7 @@ pick-byte : (o : Option Pick) (x : ℕ) → ((p : Pick) → o ≡ some p → p .
 pick-byte none x f h = h
 pick-byte (some p) x f h = f p refl
 
-mtu-most : (n : ℕ) → mtuB n ≡ true → n < 256
+pub mtu-most : (n : ℕ) → mtuB n ≡ true → n < 256
 mtu-most n h =
     elim (decLt n 256) [
       | yes l ↦ l
@@ -183,37 +183,18 @@ fresh-fair = record {
   pick = λ p q. absurd (let z : _≡_ {A = ℕ} 0 1 = cc in omega arith);
 }
 
-open-inv : (p : Bool) (a : Answer) (m : TxQueue) → cond p (done Done fresh) (refuse (Refused 1)) ≡ done a m → (p ≡ true) × (fresh ≡ m)
-open-inv true a m h = (refl, cc)
-open-inv false a m h = absurd (let z : _≡_ {A = ℕ} 0 1 = cc in omega arith)
-
 opened : (b : ℕ) (a : Answer) (m : TxQueue) → opening b ≡ done a m → wholeB (laid m (replicate b 0)) ≡ true
 unfolding opening
 opened b a m h =
-    let i = open-inv (eqb b responsesLength) a m h in
+    let i = opened-is (eqb b responsesLength) Done (Refused 1) fresh a m h in
     subst (λ (x : TxQueue). wholeB (laid x (replicate b 0)) ≡ true) (i .1)
     (laid-whole fresh (replicate b 0) (zero-bytes b) fresh-fair (length-replicate {A = ℕ} b 0 ∙ eqb-true b responsesLength (i .0)))
 
 -- ---- the theorem
 
-keeps-all : (k : Call) (b : List ℕ) → Bytes b → wholeB b ≡ true → Kept wholeB read laid b (on (step k) b) (step k (read b))
-keeps-all k b y h = kept wholeB read laid (Refused 1) Fair Sized laid-bytes laid-whole read-laid (step k) b y h (step-fair k (read b) (read-fair b y h)) (known b h .long)
-
 pub means : ResponsesMeans
 means =
     record {
       opened = opened;
-      meaning = record {
-        whole-fair = read-fair;
-        whole-sized = λ b h. known b h .long;
-        laid-read = laid-read;
-        laid-bytes = laid-bytes;
-        laid-whole = laid-whole;
-        read-laid = read-laid;
-        step-fair = step-fair;
-        step-sized = λ k m n f z. z;
-        keeps-bytes = λ k b y h. keeps-all k b y h .are-bytes;
-        keeps-whole = λ k b y h. keeps-all k b y h .are-whole;
-        keeps-meaning = λ k b y h. keeps-all k b y h .meaning;
-      };
+      meaning = means-of wholeB read laid (Refused 1) Fair Sized laid-bytes laid-whole read-laid step read-fair (λ b h. known b h .long) laid-read step-fair (λ k m n f z. z);
     }

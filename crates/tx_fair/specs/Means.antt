@@ -1,7 +1,7 @@
 -- What is proved of a transmit queue's bytes and calls, which are the response registry's.
 use Prim.Native.Nat.{ℕ, _<_, _≤_}
 use mathlib.Core.Path.{_≡_}
-use mathlib.Core.Option.{Option, none, some}
+use mathlib.Core.Option.{some}
 use mathlib.Core.Bool.{true}
 use mathlib.Core.List.{[]}
 use lib.ListN.{getD, replicate}

@@ -3,15 +3,15 @@ use Prim.Native.Nat.{ℕ}
 use mathlib.Core.Path.{_≡_, refl, sym, ap, _∙_, subst}
 use mathlib.Core.List.{List}
 use mathlib.Core.Option.{Option, none}
-use mathlib.Core.Bool.{Bool, true, false, cond}
+use mathlib.Core.Bool.{true}
 use native.Mathlib.Omega.{arith}
 use lib.Dec.{eqb}
 use lib.ListN.{length, replicate, length-replicate, getD-replicate}
 use borrow.Author.Tests.{eqb-true}
 use Rattle.state.specs.Lengths.{messagesLength}
-use Rattle.state.specs.Result.{refuse, done, Bytes}
+use Rattle.state.specs.Result.{done, Bytes}
 use Rattle.state.proofs.Bytes.{bytes-part, bytes-append}
-use Rattle.state.proofs.Calls.{Kept, kept}
+use Rattle.state.proofs.Calls.{opened-is, means-of}
 use Rattle.state.proofs.Filled.{zero-bytes}
 use Rattle.entry_tree.specs.Places as tree
 use Rattle.entry_tree.proofs.Laid as trees
@@ -26,8 +26,8 @@ use Rattle.tx_fair.proofs.Mean as queueMean
 use Rattle.tx_msg.specs.Registry as registry
 use Rattle.tx_msg.specs.Registry.{Registry, fresh}
 use Rattle.tx_msg.specs.Bytes.{treePart, queuePart, wholeB, read, laid}
-use Rattle.tx_msg.specs.Steps.{Call, step}
-use Rattle.tx_msg.specs.Calls.{opening, on}
+use Rattle.tx_msg.specs.Steps.{step}
+use Rattle.tx_msg.specs.Calls.{opening}
 use Rattle.tx_msg.specs.Means.{Fair, Sized, MessagesMeans}
 use Rattle.tx_msg.proofs.Parts.{Joined, tree-is, queue-is, long, split, laid-joined, laid-from}
 use Rattle.tx_msg.proofs.Facts.{Facts, facts-of, of-facts, at-most, whole-of, of-whole}
@@ -97,37 +97,18 @@ fresh-fair = record {
   queue = queueMean.fresh-fair;
 }
 
-open-inv : (p : Bool) (a : Answer) (m : Registry) → cond p (done Done fresh) (refuse (Refused 1)) ≡ done a m → (p ≡ true) × (fresh ≡ m)
-open-inv true a m h = (refl, cc)
-open-inv false a m h = absurd (let z : _≡_ {A = ℕ} 0 1 = cc in omega arith)
-
 opened : (b : ℕ) (a : Answer) (m : Registry) → opening b ≡ done a m → wholeB (laid m (replicate b 0)) ≡ true
 unfolding opening
 opened b a m h =
-    let i = open-inv (eqb b messagesLength) a m h in
+    let i = opened-is (eqb b messagesLength) Done (Refused 1) fresh a m h in
     subst (λ (x : Registry). wholeB (laid x (replicate b 0)) ≡ true) (i .1)
     (laid-whole fresh (replicate b 0) (zero-bytes b) fresh-fair (length-replicate {A = ℕ} b 0 ∙ eqb-true b messagesLength (i .0)))
 
 -- ---- the theorem
 
-keeps-all : (k : Call) (b : List ℕ) → Bytes b → wholeB b ≡ true → Kept wholeB read laid b (on (step k) b) (step k (read b))
-keeps-all k b y h = kept wholeB read laid (Refused 1) Fair Sized laid-bytes laid-whole read-laid (step k) b y h (step-fair k (read b) (read-fair b y h)) (whole-of b h .long)
-
 pub means : MessagesMeans
 means =
     record {
       opened = opened;
-      meaning = record {
-        whole-fair = read-fair;
-        whole-sized = λ b h. whole-of b h .long;
-        laid-read = laid-read;
-        laid-bytes = laid-bytes;
-        laid-whole = laid-whole;
-        read-laid = read-laid;
-        step-fair = step-fair;
-        step-sized = λ k m n f z. z;
-        keeps-bytes = λ k b y h. keeps-all k b y h .are-bytes;
-        keeps-whole = λ k b y h. keeps-all k b y h .are-whole;
-        keeps-meaning = λ k b y h. keeps-all k b y h .meaning;
-      };
+      meaning = means-of wholeB read laid (Refused 1) Fair Sized laid-bytes laid-whole read-laid step read-fair (λ b h. whole-of b h .long) laid-read step-fair (λ k m n f z. z);
     }

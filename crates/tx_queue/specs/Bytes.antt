@@ -7,12 +7,11 @@
 use Prim.Native.Nat.{ℕ, _+_}
 use mathlib.Core.List.{List, [], _∷_, _++_}
 use mathlib.Core.Option.{Option, none, some}
-use mathlib.Core.Bool.{Bool, true, false, cond, _&&_}
+use mathlib.Core.Bool.{Bool, cond, _&&_}
 use lib.Dec.{eqb}
 use lib.ListN.{length, getD, take, drop}
 use Rattle.state.specs.Lengths.{responsesLength}
 use Rattle.state.specs.Seq.{each}
-use Rattle.multi_cycle_list.specs.Lists.{Lists}
 use Rattle.multi_cycle_list.specs.Nodes as nodes
 use Rattle.multi_cycle_list.specs.Laid as lists
 use Rattle.tx_queue.specs.TxQueue as queue

@@ -8,7 +8,8 @@ use Rattle.tx_queue.proofs.Reading.{known}
 use Rattle.tx_queue.specs.Steps.{pick}
 use Rattle.tx_queue.specs.declared.Answer.the-variants.{Refused, Picked}
 use Rattle.tx_change.proofs.Acts.{pick-opened}
-use Rattle.tx_change.proofs.Calls.{refused, changed, mtu-small, pick-mtu, pick-again, pick-some, pick-none, mask-stored, mask-kept}
+use Rattle.tx_fair.proofs.Mean.{mtu-most}
+use Rattle.tx_change.proofs.Calls.{refused, changed, pick-mtu, pick-again, pick-some, pick-none, mask-stored, mask-kept}
 use Rattle.tx_change.proofs.pick.Statement.{statement}
 use Rattle.tx_change.proofs.pick.Tie as tie
 
@@ -37,7 +38,7 @@ slice-write-s : tie.Need-slice-write-s
 slice-write-s c = omega (arith, known (c .before .before .before .before .before .before .before .before .before .before .before .args .s .now) (c .before .before .before .before .before .before .before .before .before .before .before .pre) .long)
 
 cast-s : tie.Need-cast-s
-cast-s c = omega (arith, mtu-small (c .before .before .before .before .before .before .before .before .before .before .before .args .mtu) (sym (c .before .before .before .before .before .before .before .before .before .mtu-ok .ensures) ∙ c .before .before .before .before .before .before .before .before .if1 .taken))
+cast-s c = omega (arith, mtu-most (c .before .before .before .before .before .before .before .before .before .before .before .args .mtu) (sym (c .before .before .before .before .before .before .before .before .before .mtu-ok .ensures) ∙ c .before .before .before .before .before .before .before .before .if1 .taken))
 
 slice-write-s-2 : tie.Need-slice-write-s-2
 slice-write-s-2 c = omega (arith, known (c .before .before .before .before .before .before .before .before .before .before .before .args .s .now) (c .before .before .before .before .before .before .before .before .before .before .before .pre) .long, length-set (c .before .before .before .before .before .before .before .before .before .before .before .args .s .now) 675 (c .before .before .before .before .before .before .before .before .before .before .before .args .mask))

@@ -5,13 +5,12 @@ use mathlib.Core.Option.{none}
 use mathlib.Core.Bool.{Bool, cond, not, _||_}
 use lib.Dec.{eqb, ltb}
 use lib.ListN.{getD, set, drop}
-use Rattle.state.specs.Result.{Result, done}
+use Rattle.state.specs.Result.{Result}
 use Rattle.multi_cycle_list.specs.Laid as lists
-use Rattle.emcyphal_core.specs.Sets.{without}
-use Rattle.tx_queue.specs.TxQueue.{TxQueue, place, setsOf}
-use Rattle.tx_queue.specs.Steps.{becomes, sets, wakes, picked, startedOf, inserted, settles}
+use Rattle.tx_queue.specs.TxQueue.{TxQueue, setsOf}
+use Rattle.tx_queue.specs.Steps as steps
+use Rattle.tx_queue.specs.Steps.{picked, startedOf, settles}
 use Rattle.tx_queue.specs.declared.Answer.{Answer}
-use Rattle.tx_queue.specs.declared.Answer.the-variants.{Settled}
 
 -- the queues are these
 abbrev pub withQueues : List ℕ → List (List ℕ) → List ℕ
@@ -25,12 +24,7 @@ withSets s e ready started =
 
 -- the entry that a pick of the queue k named, and its started set
 abbrev pub framed : Bool → ℕ → ℕ → TxQueue → Result Answer TxQueue
-framed eot r k m =
-    let e = picked k m in
-    let t = startedOf (setsOf m e) in
-    cond eot
-    (done (Settled e (wakes 16 (place (sets r (without t (k / 2)))) (m .mask))) (becomes e 16 (sets r (without t (k / 2))) m))
-    (done (Settled e (wakes k (place (sets r (inserted t (k / 2)))) (m .mask))) (becomes e k (sets r (inserted t (k / 2))) m))
+framed eot r k m = steps.framed eot r (picked k m) k (startedOf (setsOf m (picked k m))) m
 
 abbrev pub unframed : ℕ → ℕ → ℕ → TxQueue → Result Answer TxQueue
 unframed r k mask m = settles none r (picked k m) k (startedOf (setsOf m (picked k m))) mask m

@@ -116,13 +116,17 @@ abbrev pub inserted : ℕ → ℕ → ℕ
 inserted b q = setOf (λ p. has b p || eqb p q)
 
 -- the pick named the entry e of the queue k, which has the started set t: a frame that ends its transfer clears started and dequeues the
--- entry first; another sets started; with none the pick's mask is stored, after the place is worked out
-abbrev pub settles : Option Frame → ℕ → ℕ → ℕ → ℕ → ℕ → TxQueue → Result Answer TxQueue
-settles none r e k t mask m = done (Settled e (wakes k (place (sets r t)) (m .mask))) (withMask mask (becomes e k (sets r t) m))
-settles (some f) r e k t mask m =
-    cond (isEot f)
+-- entry first; another sets started
+abbrev pub framed : Bool → ℕ → ℕ → ℕ → ℕ → TxQueue → Result Answer TxQueue
+framed eot r e k t m =
+    cond eot
     (done (Settled e (wakes 16 (place (sets r (without t (k / 2)))) (m .mask))) (becomes e 16 (sets r (without t (k / 2))) m))
     (done (Settled e (wakes k (place (sets r (inserted t (k / 2)))) (m .mask))) (becomes e k (sets r (inserted t (k / 2))) m))
+
+-- with no frame the pick's mask is stored, after the place is worked out
+abbrev pub settles : Option Frame → ℕ → ℕ → ℕ → ℕ → ℕ → TxQueue → Result Answer TxQueue
+settles none r e k t mask m = done (Settled e (wakes k (place (sets r t)) (m .mask))) (withMask mask (becomes e k (sets r t) m))
+settles (some f) r e k t mask m = framed (isEot f) r e k t m
 
 -- a reported frame is empty, longer than the pick's mtu, or of another priority than the picked one
 abbrev pub wrongFrame : Option Frame → ℕ → Pick → Bool

@@ -27,8 +27,8 @@
  *     Priorities and sets of them    gomxeli_priority_...
  *     The tail byte of a frame       gomxeli_tail_byte_..., gomxeli_is_eot_frame
  *
- * The first seven serve a driver. The lists and the key queues are what the Rust's
- * registries and buffers are made of, for those who want them by themselves.
+ * A driver needs the registries, the filter image and, to cut frames, the last three
+ * parts. The lists and the key queues are for its own buffers.
  *
  * QUICK START
  *
@@ -133,22 +133,22 @@ extern "C" {
 
 /* The priorities, the most urgent first. */
 enum gomxeli_priority {
-    GOMXELI_EXCEPTIONAL = 0,
-    GOMXELI_IMMEDIATE = 1,
-    GOMXELI_FAST = 2,
-    GOMXELI_HIGH = 3,
-    GOMXELI_NOMINAL = 4,
-    GOMXELI_LOW = 5,
-    GOMXELI_SLOW = 6,
-    GOMXELI_OPTIONAL = 7
+    GOMXELI_PRIORITY_EXCEPTIONAL = 0,
+    GOMXELI_PRIORITY_IMMEDIATE = 1,
+    GOMXELI_PRIORITY_FAST = 2,
+    GOMXELI_PRIORITY_HIGH = 3,
+    GOMXELI_PRIORITY_NOMINAL = 4,
+    GOMXELI_PRIORITY_LOW = 5,
+    GOMXELI_PRIORITY_SLOW = 6,
+    GOMXELI_PRIORITY_OPTIONAL = 7
 };
 
 /*
  * Sets of priorities are bytes: priority p is in the set where bit p is 1. The set of
  * one priority, and the set of all, as constants.
  */
-#define GOMXELI_SET_OF(priority) ((uint8_t)(1u << (priority)))
-#define GOMXELI_SET_ALL ((uint8_t)0xff)
+#define GOMXELI_PRIORITY_SET_OF(priority) ((uint8_t)(1u << (priority)))
+#define GOMXELI_PRIORITY_SET_ALL ((uint8_t)0xff)
 
 /* ------------------------------------------------------------------------ */
 /* Answers and refusals                                                     */
@@ -215,7 +215,7 @@ static inline unsigned gomxeli_what(gomxeli_answer answer)
     return (unsigned)((answer >> 8) & 0xffu);
 }
 
-/* An entry, a class, a key, an identifier, a set, a range's first. */
+/* An entry, a subject, a class, a key, an identifier, a set, a range's first. */
 static inline uint16_t gomxeli_first(gomxeli_answer answer)
 {
     return (uint16_t)((answer >> 16) & 0xffffu);
@@ -369,6 +369,10 @@ static inline const char *gomxeli_refusal_text(unsigned number)
  * active entries of their subject, which a walk names one by one, in the order in
  * which they became active.
  *
+ * A subject that is new to the registry takes a subject slot, of which there are as many
+ * as opening says. Removals give slots back, though not one for each subject:
+ * docs/DIFFERENCES.md has the cases.
+ *
  * The quick start at the top of this file uses one. A driver that hands a frame to
  * its endpoints may let them register and unregister on the way: the walk stays right,
  * but the entry that was to follow may be gone, and then there is none.
@@ -480,7 +484,7 @@ gomxeli_answer gomxeli_img_remove_subject_range(uint8_t *image, size_t len, uint
 
 /*
  * Whether a subject is in the image.
- * Answer: yes or not.
+ * Answer: yes or no.
  *
  * GOMXELI_RANGE      subject above 8,191
  * GOMXELI_BAD_IMAGE  len is not GOMXELI_IMG_LENGTH
@@ -661,15 +665,17 @@ gomxeli_answer gomxeli_req_poll_push(const uint8_t *state, size_t len, uint32_t 
  *
  *     static uint8_t tx[GOMXELI_TXM_LENGTH];
  *
+ *     // entry 0, on subject 100, has a message of nominal priority
+ *     const uint8_t ready = GOMXELI_PRIORITY_SET_OF(GOMXELI_PRIORITY_NOMINAL);
  *     gomxeli_txm_open(tx, sizeof tx);
- *     gomxeli_txm_register(tx, sizeof tx, 0, 100, GOMXELI_SET_OF(GOMXELI_NOMINAL));
+ *     gomxeli_txm_register(tx, sizeof tx, 0, 100, ready);
  *
  *     // room for a frame of up to 8 bytes, of any priority
- *     gomxeli_answer a =
- *         gomxeli_txm_pick(tx, sizeof tx, GOMXELI_SET_ALL, GOMXELI_MTU_CAN_CLASSIC);
+ *     const uint8_t any = GOMXELI_PRIORITY_SET_ALL;
+ *     gomxeli_answer a = gomxeli_txm_pick(tx, sizeof tx, any, GOMXELI_MTU_CAN_CLASSIC);
  *     if (gomxeli_some(a)) {
- *         uint16_t entry = gomxeli_entry(a);                // entry 0
- *         uint8_t priority = gomxeli_picked_priority(a);    // GOMXELI_NOMINAL
+ *         uint16_t entry = gomxeli_entry(a);                   // entry 0
+ *         uint8_t priority = gomxeli_picked_priority(a);       // the nominal one
  *         uint8_t frame[GOMXELI_MTU_CAN_CLASSIC];
  *         uint8_t length = next_frame(entry, priority, frame); // 0: it has none
  *         gomxeli_txm_settle(tx, sizeof tx, length > 0, readiness_of(entry), priority,
@@ -775,7 +781,7 @@ gomxeli_answer gomxeli_txm_settle(uint8_t *state, size_t len, uint8_t frame, uin
  *     gomxeli_txr_pick(tx, sizeof tx, 0x0f, GOMXELI_MTU_CAN_FD);
  *
  *     // entry 0 has a response
- *     uint8_t readiness = GOMXELI_SET_OF(GOMXELI_HIGH);
+ *     uint8_t readiness = GOMXELI_PRIORITY_SET_OF(GOMXELI_PRIORITY_HIGH);
  *     if (gomxeli_wakes(gomxeli_txr_update(tx, sizeof tx, 0, readiness)))
  *         wake();
  */
@@ -860,6 +866,14 @@ gomxeli_answer gomxeli_txr_settle(uint8_t *state, size_t len, uint8_t frame, uin
  * Some classes, each a list of entries. An entry is a number below the count of
  * entries; it stands in at most one class, and there once. The sizes are fixed
  * at opening: 1 to 32 classes, 0 to 224 entries.
+ *
+ *     static uint8_t queue[GOMXELI_MCQ_LENGTH(2, 8)];
+ *
+ *     gomxeli_mcq_open(queue, sizeof queue, 2, 8);
+ *     gomxeli_mcq_move_back(queue, sizeof queue, 0, 5);
+ *     gomxeli_answer a = gomxeli_mcq_front(queue, sizeof queue, 0);
+ *     if (gomxeli_some(a))
+ *         deliver(gomxeli_entry(a));           // entry 5
  */
 #define GOMXELI_MCQ_CLASSES_MAX 32
 #define GOMXELI_MCQ_ENTRIES_MAX 224
@@ -897,7 +911,7 @@ gomxeli_answer gomxeli_mcq_back(const uint8_t *state, size_t len, uint32_t cls);
 
 /*
  * Whether a class is empty.
- * Answer: yes or not.
+ * Answer: yes or no.
  *
  * GOMXELI_NOT_WHOLE
  * GOMXELI_SIZE       cls is not below the state's classes
@@ -945,8 +959,19 @@ gomxeli_answer gomxeli_mcq_move_back(uint8_t *state, size_t len, uint32_t cls, u
  *
  * A second insert of a key hands back the value that the key had, and does not
  * keep the new one. From then on the key has no value: insert and remove of it
- * are refused with 16, and nothing frees its entry but opening anew. It is still
- * contained and may still be enqueued and dequeued.
+ * are refused with GOMXELI_VALUE_GONE, and nothing frees its entry but opening anew. It
+ * is still contained and may still be enqueued and dequeued.
+ *
+ *     static uint8_t queue[GOMXELI_IQ_LENGTH(99, 8)];
+ *
+ *     gomxeli_iq_open(queue, sizeof queue, 99, 8);
+ *     gomxeli_iq_insert(queue, sizeof queue, 42, 7000);
+ *     gomxeli_iq_enqueue_back(queue, sizeof queue, 42);
+ *     gomxeli_answer a = gomxeli_iq_front(queue, sizeof queue);
+ *     if (gomxeli_some(a)) {
+ *         uint16_t key = gomxeli_first(a);                     // key 42
+ *         a = gomxeli_iq_remove(queue, sizeof queue, key);     // with value, 7,000
+ *     }
  */
 #define GOMXELI_IQ_KEY_MAX 8191
 #define GOMXELI_IQ_ENTRIES_MAX 222
@@ -974,7 +999,7 @@ gomxeli_answer gomxeli_iq_open(uint8_t *state, size_t len, uint32_t k_max, uint3
 /*
  * Whether the key is in the map, with its value or without. A key above K_MAX
  * is not.
- * Answer: yes or not.
+ * Answer: yes or no.
  *
  * GOMXELI_NOT_WHOLE
  */
@@ -1115,7 +1140,7 @@ gomxeli_answer gomxeli_priority_set_new_le(uint8_t priority);
 gomxeli_answer gomxeli_priority_set_new_gt(uint8_t priority);
 gomxeli_answer gomxeli_priority_set_new_lt(uint8_t priority);
 
-/* Whether a priority is in the set. Answer: yes or not. */
+/* Whether a priority is in the set. Answer: yes or no. */
 gomxeli_answer gomxeli_priority_set_contains(uint8_t bits, uint8_t priority);
 
 /* The set with the priority, and without it. Answer: byte is the set. */
@@ -1129,7 +1154,7 @@ gomxeli_answer gomxeli_priority_set_remove(uint8_t bits, uint8_t priority);
 gomxeli_answer gomxeli_priority_set_first(uint8_t bits);
 gomxeli_answer gomxeli_priority_set_last(uint8_t bits);
 
-/* Whether the set is empty. Answer: yes or not. */
+/* Whether the set is empty. Answer: yes or no. */
 gomxeli_answer gomxeli_priority_set_is_empty(uint8_t bits);
 
 /* The priorities that are not in the set, under two names. Answer: byte is the set. */
@@ -1152,6 +1177,16 @@ gomxeli_answer gomxeli_priority_set_iter_next(uint8_t bits);
 /* ------------------------------------------------------------------------ */
 
 /*
+ * A frame's last byte. The toggle of a transfer's first frame is 1, and it changes with
+ * each frame.
+ *
+ *     // the only frame of transfer 3
+ *     uint8_t frame[4] = {1, 2, 3};
+ *     frame[3] = gomxeli_byte(gomxeli_tail_byte_new(1, 1, 1, 3));      // 0xe3
+ *     put_on_bus(frame, sizeof frame);
+ */
+
+/*
  * A tail byte of these parts: start of transfer in bit 7, end of transfer in bit
  * 6, toggle in bit 5, each set where the argument is not 0, and the low 5 bits of
  * the transfer identifier.
@@ -1159,7 +1194,7 @@ gomxeli_answer gomxeli_priority_set_iter_next(uint8_t bits);
  */
 gomxeli_answer gomxeli_tail_byte_new(uint8_t sot, uint8_t eot, uint8_t toggle, uint8_t transfer_id);
 
-/* A part of a tail byte. Answer: yes, where it is set, or not. Never refused. */
+/* A part of a tail byte. Answer: yes, where it is set, or no. Never refused. */
 gomxeli_answer gomxeli_tail_byte_sot(uint8_t byte);
 gomxeli_answer gomxeli_tail_byte_eot(uint8_t byte);
 gomxeli_answer gomxeli_tail_byte_toggle(uint8_t byte);

@@ -213,42 +213,42 @@ static struct tried iq_calls[] = {
 #define A (uint8_t)n[0]
 #define B (uint8_t)n[1]
 
-#define LEAVES(do) \
-    do(subject_id_new, A16) \
-    do(service_id_new, A16) \
-    do(node_id_new, A) \
-    do(transfer_id_new, A) \
-    do(priority_try_from_u8, A) \
-    do(subject_id_from_u16_truncating, A16) \
-    do(service_id_from_u16_truncating, A16) \
-    do(node_id_from_u8_truncating, A) \
-    do(transfer_id_from_u8_truncating, A) \
-    do(priority_from_u8_truncating, A) \
-    do(transfer_id_next, A) \
-    do(priority_next, A) \
-    do(priority_prev, A) \
-    do(priority_set_new_eq, A) \
-    do(priority_set_new_ge, A) \
-    do(priority_set_new_le, A) \
-    do(priority_set_new_gt, A) \
-    do(priority_set_new_lt, A) \
-    do(priority_set_contains, A, B) \
-    do(priority_set_insert, A, B) \
-    do(priority_set_remove, A, B) \
-    do(priority_set_first, A) \
-    do(priority_set_last, A) \
-    do(priority_set_is_empty, A) \
-    do(priority_set_complement, A) \
-    do(priority_set_not, A) \
-    do(priority_set_bitand, A, B) \
-    do(priority_set_bitor, A, B) \
-    do(priority_set_iter_next, A) \
-    do(tail_byte_new, A, B, (uint8_t)n[2], (uint8_t)n[3]) \
-    do(tail_byte_sot, A) \
-    do(tail_byte_eot, A) \
-    do(tail_byte_toggle, A) \
-    do(tail_byte_transfer_id, A) \
-    do(is_eot_frame, state, len)
+#define LEAVES(each) \
+    each(subject_id_new, A16) \
+    each(service_id_new, A16) \
+    each(node_id_new, A) \
+    each(transfer_id_new, A) \
+    each(priority_try_from_u8, A) \
+    each(subject_id_from_u16_truncating, A16) \
+    each(service_id_from_u16_truncating, A16) \
+    each(node_id_from_u8_truncating, A) \
+    each(transfer_id_from_u8_truncating, A) \
+    each(priority_from_u8_truncating, A) \
+    each(transfer_id_next, A) \
+    each(priority_next, A) \
+    each(priority_prev, A) \
+    each(priority_set_new_eq, A) \
+    each(priority_set_new_ge, A) \
+    each(priority_set_new_le, A) \
+    each(priority_set_new_gt, A) \
+    each(priority_set_new_lt, A) \
+    each(priority_set_contains, A, B) \
+    each(priority_set_insert, A, B) \
+    each(priority_set_remove, A, B) \
+    each(priority_set_first, A) \
+    each(priority_set_last, A) \
+    each(priority_set_is_empty, A) \
+    each(priority_set_complement, A) \
+    each(priority_set_not, A) \
+    each(priority_set_bitand, A, B) \
+    each(priority_set_bitor, A, B) \
+    each(priority_set_iter_next, A) \
+    each(tail_byte_new, A, B, (uint8_t)n[2], (uint8_t)n[3]) \
+    each(tail_byte_sot, A) \
+    each(tail_byte_eot, A) \
+    each(tail_byte_toggle, A) \
+    each(tail_byte_transfer_id, A) \
+    each(is_eot_frame, state, len)
 
 LEAVES(LEAF)
 

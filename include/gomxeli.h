@@ -96,10 +96,14 @@
  * each state is the caller's. No call waits, allocates, calls back or calls itself;
  * docs/ARCHIVE.md says how much stack each kind of call takes.
  *
- * NUMBERS
+ * REFUSALS
  *
- * Any argument may have any value: what is out of range is refused. Arguments that
- * say yes or no are bytes, no where they are 0.
+ * Any argument may have any value, and no call aborts. A call that cannot be done is
+ * refused: gomxeli_accepted says so, gomxeli_number says why, gomxeli_refusal_text puts
+ * it into words, and every lent byte is as it was. Arguments that say yes or no are
+ * bytes, no where they are 0.
+ *
+ * The header is C99, and C++98 where that has <stdint.h>.
  */
 #ifndef GOMXELI_H
 #define GOMXELI_H
@@ -644,12 +648,12 @@ gomxeli_answer gomxeli_req_poll_push(const uint8_t *state, size_t len, uint32_t 
  * Endpoints that send messages. An entry is a number from 0 to 127 that the caller
  * chooses; registered, it has one subject, and no other entry has the same.
  *
- * The caller tells each entry's readiness, the set of the priorities of
- * which it has frames to send. It comes with registering, with an update, and with
- * a settlement. An entry with a readiness that is not empty stands in one queue,
- * that of its most urgent ready priority: among the started ones, if it has sent
- * part of a transfer of this priority, or else among the finished ones. An entry
- * that comes into a queue goes to its back; one whose queue stays does not move.
+ * The caller tells each entry's readiness, the set of the priorities of which it has
+ * frames to send. It comes with registering, with an update, and with a settlement. An
+ * entry with a readiness that is not empty stands in one queue, that of its most urgent
+ * ready priority: among the started ones, if it has sent part of a transfer of this
+ * priority, or else among the finished ones. An entry that comes into a queue goes to its
+ * back; one whose queue stays does not move.
  *
  * A pick asks which entry is to send the next frame: the front one of the most
  * urgent priority of those in its mask, started before finished. The pick is then

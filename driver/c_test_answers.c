@@ -77,11 +77,12 @@ static void test_pick(void)
     static uint8_t txm[GOMXELI_TXM_LENGTH];
     const uint8_t low = GOMXELI_PRIORITY_SET_OF(GOMXELI_PRIORITY_LOW);
     CHECK(gomxeli_byte(gomxeli_priority_set_new_eq(GOMXELI_PRIORITY_LOW)) == low);
-    CHECK(gomxeli_byte(gomxeli_priority_set_new_le(GOMXELI_PRIORITY_OPTIONAL)) == GOMXELI_PRIORITY_SET_ALL);
+    CHECK(gomxeli_byte(gomxeli_priority_set_new_le(GOMXELI_PRIORITY_OPTIONAL)) ==
+          GOMXELI_PRIORITY_SET_ALL);
     CHECK(GOMXELI_PRIORITY_EXCEPTIONAL == 0 && GOMXELI_PRIORITY_OPTIONAL == GOMXELI_PRIORITY_MAX);
     CHECK(gomxeli_accepted(gomxeli_txm_open(txm, sizeof txm)));
-    CHECK(
-        !gomxeli_some(gomxeli_txm_pick(txm, sizeof txm, GOMXELI_PRIORITY_SET_ALL, GOMXELI_MTU_CAN_CLASSIC)));
+    CHECK(!gomxeli_some(
+        gomxeli_txm_pick(txm, sizeof txm, GOMXELI_PRIORITY_SET_ALL, GOMXELI_MTU_CAN_CLASSIC)));
     CHECK(gomxeli_wakes(gomxeli_txm_register(txm, sizeof txm, 7, 100, low)));
     gomxeli_answer answer = gomxeli_txm_pick(txm, sizeof txm, low, GOMXELI_MTU_CAN_FD);
     CHECK(gomxeli_some(answer) && gomxeli_entry(answer) == 7);

@@ -2,5 +2,5 @@ pub mod Ends
 pub mod Queues
 pub mod Reception
 pub mod Transmission
-pub mod Others
+pub mod Stateless
 pub mod Refusals

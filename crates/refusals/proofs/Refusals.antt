@@ -1,83 +1,72 @@
--- Demand 1.
+-- Demand 1, by the laws of each call.
 use Prim.Native.Nat.{ℕ}
-use mathlib.Core.Path.{_≡_, refl, subst}
-use mathlib.Core.Bool.{not}
 use mathlib.Core.List.{List}
-use lib.Dec.{eqb}
 use lib.ListN.{length}
-use Rattle.tx_queue.specs.Steps.{reported}
-use Rattle.gomxeli.specs.Answers.{packed}
 use Rattle.gomxeli.specs.Calls.{Call, does, McqFront, McqBack, McqIsEmpty, McqIsFront, McqIsBack, McqRemove, McqOpen, McqMoveFront, McqMoveBack, IqFront, IqBack, IqContains, IqGet, IqRemove, IqEnqueueFront, IqEnqueueBack, IqDequeue, IqOpen, IqGetMut, IqInsert, RegOpen, RegUnregister, RegHubPushStart, RegRegister, RegPollPop, RegHubPushNext, LbOpen, LbHubPushNext, LbUnregister, LbHubPushStart, LbRegister, ReqOpen, ReqUnregister, ReqRegister, ReqPollPush, TxmOpen, TxrOpen, TxmUnregister, TxrUnregister, TxmRegister, TxrRegister, TxmUpdate, TxrUpdate, TxmPick, TxrPick, TxmSettle, TxrSettle}
-use Rattle.refusals.specs.Others as others
-use Rattle.refusals.specs.Others.{ImageCall, ImgOpen, ImgAddSubject, ImgRemoveSubjectRange, ImgHasSubject}
-use Rattle.refusals.specs.Refusals.{Alone, Refusal, alone, not-taken, Answered, Demand1}
+use Rattle.refusals.specs.Stateless as stateless
+use Rattle.refusals.specs.Stateless.{ImageCall, ImgOpen, ImgAddSubject, ImgRemoveSubjectRange, ImgHasSubject}
+use Rattle.refusals.specs.Refusals.{Answered, refusals, imageRefusals, Demand1}
 use Rattle.refusals.proofs.Ends.{asked, changed}
 use Rattle.refusals.proofs.Queues.{on-lists, front, back, is-empty, is-front, is-back, remove, move-front, move-back, open-lists, on-keys, contains, get, get-mut, insert, remove-key, front-key, back-key, enqueue-front, enqueue-back, dequeue, open-keys}
 use Rattle.refusals.proofs.Reception.{on-regular, reg-register, reg-unregister, reg-poll, reg-start, reg-next, reg-open, on-loop-back, lb-register, lb-unregister, lb-start, lb-next, lb-open, on-requests, req-register, req-unregister, req-push, req-open}
 use Rattle.refusals.proofs.Transmission.{on-responses, txr-register, txr-unregister, txr-update, txr-pick, txr-settle, txr-open, on-messages, txm-register, txm-unregister, txm-update, txm-pick, txm-settle, txm-open}
-use Rattle.refusals.proofs.Others as image
-use Rattle.refusals.proofs.Others.{leaves}
+use Rattle.refusals.proofs.Stateless as image
+use Rattle.refusals.proofs.Stateless.{leaves}
 
--- where R takes every number alone, and the 14 of the call if it is an insert
-module _ {R : ℕ → Type 0} (all : (a : ℕ) → Alone a → R a) where
-  ends : (c : Call) (b : List ℕ) → ((k v : ℕ) → IqInsert k v ≡ c → R (packed 14 0 k v)) → Answered R b (does c b)
-  ends (McqOpen c e) b h = changed _ (open-lists all (length b) c e)
-  ends (McqFront c) b h = asked (on-lists all b (front all c))
-  ends (McqBack c) b h = asked (on-lists all b (back all c))
-  ends (McqIsEmpty c) b h = asked (on-lists all b (is-empty all c))
-  ends (McqIsFront e) b h = asked (on-lists all b (is-front all e))
-  ends (McqIsBack e) b h = asked (on-lists all b (is-back all e))
-  ends (McqRemove e) b h = changed _ (on-lists all b (remove all e))
-  ends (McqMoveFront c e) b h = changed _ (on-lists all b (move-front all c e))
-  ends (McqMoveBack c e) b h = changed _ (on-lists all b (move-back all c e))
-  ends (IqOpen k e) b h = changed _ (open-keys all (length b) k e)
-  ends (IqContains k) b h = asked (on-keys all b (contains all k))
-  ends (IqGet k) b h = asked (on-keys all b (get all k))
-  ends (IqGetMut k v) b h = changed _ (on-keys all b (get-mut all k v))
-  ends (IqInsert k v) b h = changed _ (on-keys all b (insert all k v (h k v refl)))
-  ends (IqRemove k) b h = changed _ (on-keys all b (remove-key all k))
-  ends IqFront b h = asked (on-keys all b (front-key all))
-  ends IqBack b h = asked (on-keys all b (back-key all))
-  ends (IqEnqueueFront k) b h = changed _ (on-keys all b (enqueue-front all k))
-  ends (IqEnqueueBack k) b h = changed _ (on-keys all b (enqueue-back all k))
-  ends (IqDequeue k) b h = changed _ (on-keys all b (dequeue all k))
-  ends (RegOpen n) b h = changed _ (reg-open all (length b) n)
-  ends (RegRegister e x) b h = changed _ (on-regular all b (reg-register all e x))
-  ends (RegUnregister e) b h = changed _ (on-regular all b (reg-unregister all e))
-  ends RegPollPop b h = changed _ (on-regular all b (reg-poll all))
-  ends (RegHubPushStart x) b h = changed _ (on-regular all b (reg-start all x))
-  ends RegHubPushNext b h = changed _ (on-regular all b (reg-next all))
-  ends LbOpen b h = changed _ (lb-open all (length b))
-  ends (LbRegister e x) b h = changed _ (on-loop-back all b (lb-register all e x))
-  ends (LbUnregister e) b h = changed _ (on-loop-back all b (lb-unregister all e))
-  ends (LbHubPushStart x) b h = changed _ (on-loop-back all b (lb-start all x))
-  ends LbHubPushNext b h = changed _ (on-loop-back all b (lb-next all))
-  ends ReqOpen b h = changed _ (req-open all (length b))
-  ends (ReqRegister e x) b h = changed _ (on-requests all b (req-register all e x))
-  ends (ReqUnregister e) b h = changed _ (on-requests all b (req-unregister all e))
-  ends (ReqPollPush x loopBack) b h = asked (on-requests all b (req-push all x (not (eqb loopBack 0))))
-  ends TxmOpen b h = changed _ (txm-open all (length b))
-  ends (TxmRegister e x r) b h = changed _ (on-messages all b (txm-register all e x r))
-  ends (TxmUnregister e) b h = changed _ (on-messages all b (txm-unregister all e))
-  ends (TxmUpdate e r) b h = changed _ (on-messages all b (txm-update all e r))
-  ends (TxmPick mask mtu) b h = changed _ (on-messages all b (txm-pick all mask mtu))
-  ends (TxmSettle frame r p n last) b h = changed _ (on-messages all b (txm-settle all (reported (not (eqb frame 0)) p n last) r))
-  ends TxrOpen b h = changed _ (txr-open all (length b))
-  ends (TxrRegister e r) b h = changed _ (on-responses all b (txr-register all e r))
-  ends (TxrUnregister e) b h = changed _ (on-responses all b (txr-unregister all e))
-  ends (TxrUpdate e r) b h = changed _ (on-responses all b (txr-update all e r))
-  ends (TxrPick mask mtu) b h = changed _ (on-responses all b (txr-pick all mask mtu))
-  ends (TxrSettle frame r p n last) b h = changed _ (on-responses all b (txr-settle all (reported (not (eqb frame 0)) p n last) r))
+on-state : (c : Call) (b : List ℕ) → Answered (refusals c) b (does c b)
+on-state (McqOpen c e) b = changed _ (open-lists (length b) c e)
+on-state (McqFront c) b = asked (on-lists b (front c))
+on-state (McqBack c) b = asked (on-lists b (back c))
+on-state (McqIsEmpty c) b = asked (on-lists b (is-empty c))
+on-state (McqIsFront e) b = asked (on-lists b (is-front e))
+on-state (McqIsBack e) b = asked (on-lists b (is-back e))
+on-state (McqRemove e) b = changed _ (on-lists b (remove e))
+on-state (McqMoveFront c e) b = changed _ (on-lists b (move-front c e))
+on-state (McqMoveBack c e) b = changed _ (on-lists b (move-back c e))
+on-state (IqOpen k e) b = changed _ (open-keys (length b) k e)
+on-state (IqContains k) b = asked (on-keys b (contains k))
+on-state (IqGet k) b = asked (on-keys b (get k))
+on-state (IqGetMut k v) b = changed _ (on-keys b (get-mut k v))
+on-state (IqInsert k v) b = changed _ (on-keys b (insert k v))
+on-state (IqRemove k) b = changed _ (on-keys b (remove-key k))
+on-state IqFront b = asked (on-keys b front-key)
+on-state IqBack b = asked (on-keys b back-key)
+on-state (IqEnqueueFront k) b = changed _ (on-keys b (enqueue-front k))
+on-state (IqEnqueueBack k) b = changed _ (on-keys b (enqueue-back k))
+on-state (IqDequeue k) b = changed _ (on-keys b (dequeue k))
+on-state (RegOpen n) b = changed _ (reg-open (length b) n)
+on-state (RegRegister e x) b = changed _ (on-regular b (reg-register e x))
+on-state (RegUnregister e) b = changed _ (on-regular b (reg-unregister e))
+on-state RegPollPop b = changed _ (on-regular b reg-poll)
+on-state (RegHubPushStart x) b = changed _ (on-regular b (reg-start x))
+on-state RegHubPushNext b = changed _ (on-regular b reg-next)
+on-state LbOpen b = changed _ (lb-open (length b))
+on-state (LbRegister e x) b = changed _ (on-loop-back b (lb-register e x))
+on-state (LbUnregister e) b = changed _ (on-loop-back b (lb-unregister e))
+on-state (LbHubPushStart x) b = changed _ (on-loop-back b (lb-start x))
+on-state LbHubPushNext b = changed _ (on-loop-back b lb-next)
+on-state ReqOpen b = changed _ (req-open (length b))
+on-state (ReqRegister e x) b = changed _ (on-requests b (req-register e x))
+on-state (ReqUnregister e) b = changed _ (on-requests b (req-unregister e))
+on-state (ReqPollPush x loopBack) b = asked (on-requests b (req-push x loopBack))
+on-state TxmOpen b = changed _ (txm-open (length b))
+on-state (TxmRegister e x r) b = changed _ (on-messages b (txm-register e x r))
+on-state (TxmUnregister e) b = changed _ (on-messages b (txm-unregister e))
+on-state (TxmUpdate e r) b = changed _ (on-messages b (txm-update e r))
+on-state (TxmPick mask mtu) b = changed _ (on-messages b (txm-pick mask mtu))
+on-state (TxmSettle frame r p n last) b = changed _ (on-messages b (txm-settle frame r p n last))
+on-state TxrOpen b = changed _ (txr-open (length b))
+on-state (TxrRegister e r) b = changed _ (on-responses b (txr-register e r))
+on-state (TxrUnregister e) b = changed _ (on-responses b (txr-unregister e))
+on-state (TxrUpdate e r) b = changed _ (on-responses b (txr-update e r))
+on-state (TxrPick mask mtu) b = changed _ (on-responses b (txr-pick mask mtu))
+on-state (TxrSettle frame r p n last) b = changed _ (on-responses b (txr-settle frame r p n last))
 
-on-image : (c : ImageCall) (b : List ℕ) → Answered Alone b (others.image c b)
+on-image : (c : ImageCall) (b : List ℕ) → Answered (imageRefusals c) b (stateless.image c b)
 on-image ImgOpen b = changed _ (image.opens b)
 on-image (ImgAddSubject x) b = changed _ (image.add x b)
 on-image (ImgRemoveSubjectRange x y) b = changed _ (image.remove x y b)
 on-image (ImgHasSubject x) b = asked (image.has x b)
 
 pub demand-1 : Demand1
-demand-1 = record {
-  state = λ c b. ends (alone c) c b (λ k v q. subst (λ c. Refusal c (packed 14 0 k v)) q (not-taken k v));
-  filter = on-image;
-  leaves = leaves;
-}
+demand-1 = record { on-state = on-state; on-image = on-image; leaves = leaves }

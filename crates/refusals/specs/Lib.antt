@@ -1,2 +1,2 @@
-pub mod Others
+pub mod Stateless
 pub mod Refusals

@@ -1,4 +1,4 @@
--- How the calls of the filter image end, and what the calls on numbers or a frame alone answer.
+-- How the calls of the filter image end, and what the leaves answer.
 use Prim.Native.Nat.{ℕ, _+_}
 use mathlib.Core.Path.{_≡_, refl}
 use mathlib.Core.Bool.{Bool, true, false, cond, _||_}
@@ -32,35 +32,35 @@ use Rattle.format.specs.declared.MaybeEot as eot
 use Rattle.format.specs.declared.MaybeEot.the-variants as eot-says
 use Rattle.gomxeli.specs.Answers.{packed, number, imageAnswer, priorityAnswer, subjectAnswer, serviceAnswer, nodeAnswer, transferAnswer, eotAnswer, nextAnswer, withPriority}
 use Rattle.gomxeli.proofs.Fields.{refusal-of}
-use Rattle.refusals.specs.Others.{LeafCall, leaf, SubjectIdNew, SubjectIdFromU16Truncating, ServiceIdNew, ServiceIdFromU16Truncating, NodeIdNew, NodeIdFromU8Truncating, TransferIdNew, TransferIdFromU8Truncating, TransferIdNext, PriorityTryFromU8, PriorityFromU8Truncating, PriorityNext, PriorityPrev, PrioritySetNewEq, PrioritySetNewGe, PrioritySetNewLe, PrioritySetNewGt, PrioritySetNewLt, PrioritySetFirst, PrioritySetLast, PrioritySetIsEmpty, PrioritySetComplement, PrioritySetNot, PrioritySetIterNext, TailByteSot, TailByteEot, TailByteToggle, TailByteTransferId, PrioritySetContains, PrioritySetInsert, PrioritySetRemove, PrioritySetBitand, PrioritySetBitor, TailByteNew, IsEotFrame}
-use Rattle.refusals.specs.Refusals.{Alone}
-use Rattle.refusals.proofs.Ends.{Ends, refuses, answers, either, zero-number, isAlone, numbered}
+use Rattle.refusals.specs.Stateless.{ImgOpen, ImgAddSubject, ImgRemoveSubjectRange, ImgHasSubject, LeafCall, leaf, SubjectIdNew, SubjectIdFromU16Truncating, ServiceIdNew, ServiceIdFromU16Truncating, NodeIdNew, NodeIdFromU8Truncating, TransferIdNew, TransferIdFromU8Truncating, TransferIdNext, PriorityTryFromU8, PriorityFromU8Truncating, PriorityNext, PriorityPrev, PrioritySetNewEq, PrioritySetNewGe, PrioritySetNewLe, PrioritySetNewGt, PrioritySetNewLt, PrioritySetFirst, PrioritySetLast, PrioritySetIsEmpty, PrioritySetComplement, PrioritySetNot, PrioritySetIterNext, TailByteSot, TailByteEot, TailByteToggle, TailByteTransferId, PrioritySetContains, PrioritySetInsert, PrioritySetRemove, PrioritySetBitand, PrioritySetBitor, TailByteNew, IsEotFrame}
+use Rattle.refusals.specs.Refusals.{among, imageRefusals}
+use Rattle.refusals.proofs.Ends.{Ends, refuses, answers, either, zero-number, numbered}
 
 -- ---- the filter image
 
-no-image : (n : ℕ) → isAlone n ≡ true → Ends {M = Subjects} Alone imageAnswer (refuse (image-says.Refused n))
-no-image n h = refuses (numbered (λ a p. p) n h)
+no-image : {l : List ℕ} (n : ℕ) → among n l ≡ true → Ends {M = Subjects} l imageAnswer (refuse (image-says.Refused n))
+no-image {l = l} n h = refuses (numbered l n h)
 
-on-image : (n : ℕ) {r : Result image.Answer Subjects} → Ends Alone imageAnswer r → Ends Alone imageAnswer (onImage n r)
-on-image n p = either (eqb n imageLength) p (no-image 4 refl)
+on-image : {l : List ℕ} (n : ℕ) {r : Result image.Answer Subjects} → among 4 l ≡ true → Ends l imageAnswer r → Ends l imageAnswer (onImage n r)
+on-image n h p = either (eqb n imageLength) p (no-image 4 h)
 
-pub opens : (b : List ℕ) → Ends Alone imageAnswer (opening b)
+pub opens : (b : List ℕ) → Ends (imageRefusals ImgOpen) imageAnswer (opening b)
 unfolding opening
-opens b = on-image (length b) (answers (zero-number _ _ _))
+opens b = on-image (length b) refl (answers (zero-number _ _ _))
 
-pub add : (x : ℕ) (b : List ℕ) → Ends Alone imageAnswer (addSubject x b)
+pub add : (x : ℕ) (b : List ℕ) → Ends (imageRefusals (ImgAddSubject x)) imageAnswer (addSubject x b)
 unfolding addSubject
-add x b = either (ltb 8191 x) (no-image 3 refl) (on-image (length b) (answers (zero-number _ _ _)))
+add x b = either (ltb 8191 x) (no-image 3 refl) (on-image (length b) refl (answers (zero-number _ _ _)))
 
-pub remove : (x y : ℕ) (b : List ℕ) → Ends Alone imageAnswer (removeSubjectRange x y b)
+pub remove : (x y : ℕ) (b : List ℕ) → Ends (imageRefusals (ImgRemoveSubjectRange x y)) imageAnswer (removeSubjectRange x y b)
 unfolding removeSubjectRange
-remove x y b = either (ltb 8191 x || (ltb 8191 y || ltb y x)) (no-image 3 refl) (on-image (length b) (answers (zero-number _ _ _)))
+remove x y b = either (ltb 8191 x || (ltb 8191 y || ltb y x)) (no-image 3 refl) (on-image (length b) refl (answers (zero-number _ _ _)))
 
-pub has : (x : ℕ) (b : List ℕ) → Ends Alone imageAnswer (hasSubject x b)
+pub has : (x : ℕ) (b : List ℕ) → Ends (imageRefusals (ImgHasSubject x)) imageAnswer (hasSubject x b)
 unfolding hasSubject
-has x b = either (ltb 8191 x) (no-image 3 refl) (on-image (length b) (answers (zero-number _ _ _)))
+has x b = either (ltb 8191 x) (no-image 3 refl) (on-image (length b) refl (answers (zero-number _ _ _)))
 
--- ---- numbers or a frame alone
+-- ---- the leaves
 
 priority-zero : (o : priority.MaybePriority) → number (priorityAnswer o) ≡ 0
 priority-zero (priority-says.Some p) = zero-number _ _ _

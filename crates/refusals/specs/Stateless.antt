@@ -1,4 +1,4 @@
--- The exported calls that take no state: those of the filter image, and those on numbers or a frame alone. Each as its own contract has it.
+-- The exported calls that take no state, each as its own contract has it: the filter image's, and the leaves', on numbers or a frame alone.
 use Prim.Native.Nat.{ℕ, _+_, _%_}
 use mathlib.Core.Bool.{not, _&&_, _||_}
 use mathlib.Core.List.{List}
@@ -18,14 +18,19 @@ pub data ImageCall : Type 0 where
 
 abbrev pub image : ImageCall → List ℕ → Outcome
 image ImgOpen b = changes imageAnswer bytes b (opening b)
-image (ImgAddSubject x) b = changes imageAnswer bytes b (addSubject x b)
+image (ImgAddSubject subject) b = changes imageAnswer bytes b (addSubject subject b)
 image (ImgRemoveSubjectRange first last) b = changes imageAnswer bytes b (removeSubjectRange first last b)
-image (ImgHasSubject x) b = asks imageAnswer b (hasSubject x b)
+image (ImgHasSubject subject) b = asks imageAnswer b (hasSubject subject b)
 
 pub data LeafCall : Type 0 where
-  SubjectIdNew SubjectIdFromU16Truncating ServiceIdNew ServiceIdFromU16Truncating NodeIdNew NodeIdFromU8Truncating TransferIdNew TransferIdFromU8Truncating TransferIdNext PriorityTryFromU8 PriorityFromU8Truncating PriorityNext PriorityPrev PrioritySetNewEq PrioritySetNewGe PrioritySetNewLe PrioritySetNewGt PrioritySetNewLt PrioritySetFirst PrioritySetLast PrioritySetIsEmpty PrioritySetComplement PrioritySetNot PrioritySetIterNext TailByteSot TailByteEot TailByteToggle TailByteTransferId : ℕ → LeafCall
+  SubjectIdNew SubjectIdFromU16Truncating ServiceIdNew ServiceIdFromU16Truncating : ℕ → LeafCall
+  NodeIdNew NodeIdFromU8Truncating TransferIdNew TransferIdFromU8Truncating TransferIdNext : ℕ → LeafCall
+  PriorityTryFromU8 PriorityFromU8Truncating PriorityNext PriorityPrev : ℕ → LeafCall
+  PrioritySetNewEq PrioritySetNewGe PrioritySetNewLe PrioritySetNewGt PrioritySetNewLt : ℕ → LeafCall
   PrioritySetContains PrioritySetInsert PrioritySetRemove PrioritySetBitand PrioritySetBitor : ℕ → ℕ → LeafCall
+  PrioritySetFirst PrioritySetLast PrioritySetIsEmpty PrioritySetComplement PrioritySetNot PrioritySetIterNext : ℕ → LeafCall
   TailByteNew : ℕ → ℕ → ℕ → ℕ → LeafCall
+  TailByteSot TailByteEot TailByteToggle TailByteTransferId : ℕ → LeafCall
   IsEotFrame : List ℕ → LeafCall
 
 abbrev pub leaf : LeafCall → ℕ

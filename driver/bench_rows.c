@@ -1,77 +1,79 @@
+/* Rows: a call, a state and what the call is given there. */
 #include <stdio.h>
+#include <stdlib.h>
+#include <string.h>
 
 #include "bench.h"
 #include "state_tree.h"
 
-enum { ENTRIES = REGISTRY_ENTRIES };
+const unsigned registry_counts[] = {0, 16, REGISTRY_ENTRIES};
 
-void entry_past(const struct aim *aim, uint32_t *n)
+unsigned nth_entry(unsigned i)
 {
-    (void)aim;
-    n[0] = ENTRIES;
+    return i * 37 % REGISTRY_ENTRIES;
 }
 
-void entry_there(const struct aim *aim, uint32_t *n)
+const char *const three_places[PLACES] = {"first", "middle", "last", NULL};
+
+unsigned index_of(enum place place, unsigned count)
 {
-    n[0] = nth_entry(aim->place);
+    return place == FIRST ? 0 : place == LAST ? count - 1 : count / 2;
 }
 
-static double time_at(const struct rows *rows, const struct column *column, const struct aim *aim)
+void script_add(struct script *script, const char *name, call_function *call, const uint32_t *n)
 {
-    static struct state state;
-    uint32_t n[MOST_NUMBERS] = {0};
-    struct aim aimed = *aim;
-    if (column->needs_room && aimed.count == ENTRIES)
-        aimed.count--;
-    if (aimed.place > 0 && aimed.place == aimed.count)
-        aimed.place--;
-    aimed.picked = column->picked;
-    rows->build(&aimed, &state);
-    column->number(&aimed, n);
-    return time_of(column->call, &state, n);
-}
-
-/* The longest of both ends, with the entries apart and, if so, all in one. */
-static double worst_time(const struct rows *rows, const struct column *column, unsigned count)
-{
-    double worst = 0;
-    for (unsigned i = 0; i < (rows->shares ? 4 : 2); i++) {
-        const struct aim aim = {count, i < 2 ? rows->stride : 0, i % 2 == 0 ? 0 : count - 1, false};
-        double time = time_at(rows, column, &aim);
-        worst = time > worst ? time : worst;
+    if (script->count == MOST_STEPS) {
+        fprintf(stderr, "bench: too many steps\n");
+        exit(1);
     }
-    return worst;
+    struct step *step = &script->step[script->count++];
+    step->name = name;
+    step->call = call;
+    memcpy(step->n, n, sizeof step->n);
 }
 
-/* In the middle of entries that are apart. */
-static double usual_time(const struct rows *rows, const struct column *column, unsigned count)
+/* A step that is refused leads elsewhere. */
+static void must_be_accepted(const struct row *row, const char *name, gomxeli_answer answer)
 {
-    const struct aim aim = {count, rows->stride, count / 2, false};
-    return time_at(rows, column, &aim);
+    if (gomxeli_number(answer) == GOMXELI_ACCEPTED)
+        return;
+    fprintf(stderr, "bench: %s, %s: %s is refused with %u\n", row->call->name, row->shape->name,
+            name, gomxeli_number(answer));
+    exit(1);
 }
 
-static void print_row(const struct rows *rows, const char *name, unsigned count,
-                      double (*time)(const struct rows *, const struct column *, unsigned))
+static void play(const struct row *row, struct state *state)
 {
-    static struct state state;
-    const struct aim aim = {count, rows->stride, 0, false};
-    rows->build(&aim, &state);
-    double pass_time = pass_time_of(&state);
-    printf("%-30s%4u%8.0f", name, count, pass_time);
-    for (unsigned i = 0; i < MOST_COLUMNS && rows->columns[i].title != NULL; i++)
-        printf("%11.2f", time(rows, &rows->columns[i], count) / pass_time);
-    printf("\n");
+    const struct kind *kind = row->kind;
+    state->len = kind->len;
+    memset(state->byte, 0, state->len);
+    must_be_accepted(row, "opening", kind->open(state->byte, state->len, kind->opening));
+    if (row->shape->lay != NULL)
+        row->shape->lay(row->entries, state);
+    for (unsigned i = 0; i < row->script.count; i++) {
+        const struct step *step = &row->script.step[i];
+        must_be_accepted(row, step->name, step->call(state->byte, state->len, step->n));
+    }
 }
 
-void bench_rows(const struct rows *rows)
+void row_build(struct row *row, const struct kind *kind, const struct call *call,
+               const struct shape *shape, enum place place, unsigned count)
 {
-    printf("%-30s%4s%8s", rows->title, "", "pass ns");
-    for (unsigned i = 0; i < MOST_COLUMNS && rows->columns[i].title != NULL; i++)
-        printf("%11s", rows->columns[i].title);
-    printf("\n");
-    print_row(rows, "none", 0, usual_time);
-    print_row(rows, "usual", 16, usual_time);
-    print_row(rows, "worst", 16, worst_time);
-    print_row(rows, "usual", ENTRIES, usual_time);
-    print_row(rows, "worst", ENTRIES, worst_time);
+    row->kind = kind;
+    row->call = call;
+    row->shape = shape;
+    row->place = place;
+    row->entries = call->needs_room && count == kind->entries ? count - 1 : count;
+    row->script.kind = kind;
+    row->script.count = 0;
+    if (shape->build != NULL)
+        shape->build(row->entries, &row->script);
+    play(row, &row->state);
+    if (call->prepare != NULL) {
+        call->prepare(&row->state, place, &row->script);
+        play(row, &row->state);
+    }
+    memcpy(row->n, kind->opening, sizeof row->n);
+    if (call->numbers != NULL)
+        call->numbers(&row->state, place, row->n);
 }

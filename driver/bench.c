@@ -139,7 +139,7 @@ static struct measured measure_worst(const struct kind *kind, const struct call 
                 continue;
             row_build(&row, kind, call, shape, place, count);
             double passes = passes_of(try_row(&row));
-            if (passes > 1.03 * most) {
+            if (passes > 1.05 * most) {
                 most = passes;
                 worst = row;
             }

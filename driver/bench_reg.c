@@ -81,32 +81,66 @@ static void last_gap(unsigned count, struct script *script)
     enter(script, count - 1, nth_subject(0));
 }
 
-/* A poll makes all of them active, by as many inner steps, and finds nothing. */
+/*
+ * The first so many are active, each on its own subject; the others wait on subjects of
+ * these. A poll makes all of them active, by as many inner steps, and finds nothing.
+ */
+static void wait_behind(unsigned active, unsigned count, unsigned (*which)(unsigned, unsigned),
+                        struct script *script)
+{
+    for (unsigned i = 0; i < active; i++)
+        enter(script, i, nth_subject(i));
+    for (unsigned i = 0; active > 0 && i < count - active; i++)
+        enter(script, active + i, nth_subject(which(i, active)));
+    poll(script, active);
+}
+
+static unsigned lowest(unsigned i, unsigned active)
+{
+    (void)i;
+    (void)active;
+    return 0;
+}
+
+static unsigned one_each_last_first(unsigned i, unsigned active)
+{
+    return active - 1 - i % active;
+}
+
+/* As many on each as an eighth of the entries leaves. */
+static unsigned seven_each_last_first(unsigned i, unsigned active)
+{
+    return active - 1 - i / 7 % active;
+}
+
+static unsigned scattered(unsigned i, unsigned active)
+{
+    return i * 37 % active;
+}
+
 static void waiting_on_one(unsigned count, struct script *script)
 {
-    for (unsigned i = 0; i < count; i++)
-        enter(script, i, FIRST_SUBJECT);
-    poll(script, count > 0);
+    wait_behind(count > 0, count, lowest, script);
 }
 
-/* The same with half of them active, each on its own subject; the others wait on the lowest. */
-static void waiting_on_first(unsigned count, struct script *script)
+static void waiting_on_lowest(unsigned count, struct script *script)
 {
-    unsigned half = count / 2;
-    for (unsigned i = 0; i < count; i++)
-        enter(script, i, i < half ? nth_subject(i) : nth_subject(0));
-    poll(script, half);
+    wait_behind(count / 2, count, lowest, script);
 }
 
-/* The same with one that waits on each, the last subject first. */
-static void waiting_on_each(unsigned count, struct script *script)
+static void waiting_on_half(unsigned count, struct script *script)
 {
-    unsigned half = count / 2;
-    for (unsigned i = 0; i < half; i++)
-        enter(script, i, nth_subject(i));
-    for (unsigned i = half; half > 0 && i < count; i++)
-        enter(script, i, nth_subject(half - 1 - i % half));
-    poll(script, half);
+    wait_behind(count / 2, count, one_each_last_first, script);
+}
+
+static void waiting_on_eighth(unsigned count, struct script *script)
+{
+    wait_behind(count / 8, count, seven_each_last_first, script);
+}
+
+static void waiting_scattered(unsigned count, struct script *script)
+{
+    wait_behind(count / 8, count, scattered, script);
 }
 
 /* ------------------------------------------------------------------------ */
@@ -152,7 +186,7 @@ static void reverse_on_one(unsigned count, struct state *state)
     ties_in_reverse(count > 0, count, state);
 }
 
-static void reverse_on_first(unsigned count, struct state *state)
+static void reverse_on_lowest(unsigned count, struct state *state)
 {
     ties_in_reverse(count / 2, count, state);
 }
@@ -165,11 +199,13 @@ static const struct shape shapes[] = {
     {.name = "marked and waiting", .build = marked_and_waiting},
     {.name = "last gap", .build = last_gap},
     {.name = "waiting on one", .build = waiting_on_one},
-    {.name = "waiting on the first of half", .build = waiting_on_first},
-    {.name = "waiting on each of half", .build = waiting_on_each},
+    {.name = "waiting on the lowest", .build = waiting_on_lowest},
+    {.name = "waiting on a half", .build = waiting_on_half},
+    {.name = "waiting on an eighth", .build = waiting_on_eighth},
+    {.name = "waiting on an eighth, scattered", .build = waiting_scattered},
     {.name = "all marked", .lay = all_marked},
     {.name = "waiting on one, in reverse", .lay = reverse_on_one},
-    {.name = "waiting on the first of half, in reverse", .lay = reverse_on_first},
+    {.name = "waiting on the lowest, in reverse", .lay = reverse_on_lowest},
     {.name = NULL},
 };
 

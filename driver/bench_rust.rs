@@ -112,7 +112,11 @@ fn frame() -> Frame {
         priority: Priority::Nominal,
         data_spec: DataSpecifier::Message(SubjectId::MAX),
     };
-    Frame { header, data: vec![0; FRAME_LENGTH], loop_back: false }
+    Frame {
+        header,
+        data: vec![0; FRAME_LENGTH],
+        loop_back: false,
+    }
 }
 
 const FRAME_LENGTH: usize = 8;
@@ -128,7 +132,12 @@ struct Sending<K: TxKind> {
 
 impl<K: TxKind> Sending<K> {
     fn new() -> Self {
-        Self { side: TxSide::new(), mask: 0, mtu: 0, frame: Some(frame()) }
+        Self {
+            side: TxSide::new(),
+            mask: 0,
+            mtu: 0,
+            frame: Some(frame()),
+        }
     }
 
     fn pick(&mut self, n: &Numbers) -> Answer {
@@ -151,7 +160,10 @@ impl<K: TxKind> Sending<K> {
 
     /// The pick and its settlement: the entry that was asked.
     fn settle(&mut self, n: &Numbers) -> Answer {
-        let report = Report { readiness: n[1] as u8, frame: self.reported(n) };
+        let report = Report {
+            readiness: n[1] as u8,
+            frame: self.reported(n),
+        };
         let (asked, frame) = self.side.poll_pop(self.mask, self.mtu, report);
         self.frame = frame.or(self.frame.take());
         Answer::first(asked.map_or(0, |asked| asked.entry.into()))

@@ -86,7 +86,7 @@ static void write_heads(void)
 /* What no call comes near to, however slow the machine                     */
 /* ------------------------------------------------------------------------ */
 
-enum { ABSURD_PASSES = 40, ABSURD_NS = 1000 };
+enum { ABSURD_PASSES = 100, ABSURD_NS = 1000 };
 
 static bool was_absurd;
 
@@ -109,12 +109,21 @@ static const char *place_name(const struct call *call, enum place place)
     return (call->places != NULL ? call->places : no_choice)[place];
 }
 
-static struct measured measure(const struct row *row, const char *in, unsigned entries)
+/* The one that is measured. */
+static struct row row;
+
+/* A state and what a call aims at there. */
+struct aim {
+    const struct shape *shape;
+    enum place place;
+};
+
+static struct measured measure(const char *in, unsigned entries)
 {
     struct measured m = {
-        row->kind->name,  row->call->name, in,
-        entries,          row->shape->name, place_name(row->call, row->place),
-        time_row(row),
+        row.kind->name,  row.call->name, in,
+        entries,         row.shape->name, place_name(row.call, row.place),
+        time_row(&row),
     };
     return m;
 }
@@ -122,30 +131,30 @@ static struct measured measure(const struct row *row, const char *in, unsigned e
 static struct measured measure_usual(const struct kind *kind, const struct call *call,
                                      unsigned count)
 {
-    static struct row row;
-    row_build(&row, kind, call, &kind->shapes[0], MIDDLE, count);
-    return measure(&row, "usual", count);
+    row_make(&row, kind, call, &kind->shapes[0], MIDDLE, count);
+    return measure("usual", count);
 }
 
 /* Of all shapes and places; of nearly equal ones the first. */
 static struct measured measure_worst(const struct kind *kind, const struct call *call,
                                      unsigned count)
 {
-    static struct row row, worst;
+    struct aim worst = {NULL, MIDDLE};
     double most = 0;
     for (const struct shape *shape = kind->shapes; shape->name != NULL; shape++) {
         for (enum place place = FIRST; place < PLACES; place++) {
             if (place_name(call, place) == NULL)
                 continue;
-            row_build(&row, kind, call, shape, place, count);
+            row_make(&row, kind, call, shape, place, count);
             double passes = passes_of(try_row(&row));
             if (passes > 1.05 * most) {
                 most = passes;
-                worst = row;
+                worst = (struct aim){shape, place};
             }
         }
     }
-    return measure(&worst, "worst", count);
+    row_make(&row, kind, call, worst.shape, worst.place, count);
+    return measure("worst", count);
 }
 
 /* The usual state is the worst where no other takes longer. */
@@ -225,7 +234,7 @@ int main(int argc, char **argv)
 {
     int next = 1;
     if (next < argc && strcmp(argv[next], "quick") == 0) {
-        be_quick();
+        is_quick = true;
         next++;
     }
     if (next < argc) {

@@ -44,15 +44,19 @@ void script_add(struct script *script, const char *name, call_function *call, co
     script_add(script, #name, name, (const uint32_t[MOST_NUMBERS]){__VA_ARGS__})
 
 /*
- * A state that calls lead to from opening. Where none do, it is laid out: the Rust
- * cannot be brought there.
+ * A state that calls lead to from opening, or many that are drawn at random. Where none
+ * do, it is laid out: the Rust cannot be brought there.
  */
 struct shape {
     const char *name;
     void (*build)(unsigned count, struct script *script);
     void (*lay)(unsigned count, struct state *state);
+    bool is_drawn;
     bool panics; /* the Rust may, at a call that ours answers */
 };
+
+/* The name of those that are drawn: a processor has not learned them yet. */
+#define DRAWN(drawn) {.name = "drawn, each met anew", .build = drawn, .is_drawn = true}
 
 /* What a call aims at: an entry, subject, class or key at a place, or something else. */
 enum place { FIRST, MIDDLE, LAST, OTHER, PLACES };
@@ -117,16 +121,24 @@ unsigned nth_entry(unsigned i);
 /* Rows and leaves                                                          */
 /* ------------------------------------------------------------------------ */
 
-/* A call in a state. */
+/* As many states as are drawn of one shape, and their bytes. */
+enum { MOST_VARIANTS = 1024, VARIANTS_BYTES = 2 * 1024 * 1024 };
+
+struct bytes {
+    uint8_t byte[VARIANTS_BYTES];
+};
+
+/* A call in a state, or in each of many. */
 struct row {
     const struct kind *kind;
     const struct call *call;
     const struct shape *shape;
     enum place place;
     unsigned entries;
-    struct script script;
-    struct state state;
-    uint32_t n[MOST_NUMBERS];
+    unsigned variants;
+    const struct bytes *built; /* before the call is prepared */
+    struct bytes ready;
+    uint32_t n[MOST_VARIANTS][MOST_NUMBERS];
 };
 
 /* Nanoseconds of the call, of one pass over the bytes, and of the Rust's; 0: not measured. */
@@ -136,9 +148,14 @@ struct figures {
     double rust;
 };
 
-/* Builds the state of so many entries, and the call's numbers. */
-void row_build(struct row *row, const struct kind *kind, const struct call *call,
-               const struct shape *shape, enum place place, unsigned count);
+/* Makes the states of so many entries, and the call's numbers in each. */
+void row_make(struct row *row, const struct kind *kind, const struct call *call,
+              const struct shape *shape, enum place place, unsigned count);
+
+/* A variant's bytes; its state; the calls that lead to it from opening. */
+const uint8_t *row_bytes(const struct row *row, unsigned variant);
+void row_state(const struct row *row, unsigned variant, struct state *state);
+void row_script(const struct row *row, unsigned variant, struct script *script);
 
 /* Measures the call and the pass by some batches; these and the Rust's call by more. */
 struct figures try_row(const struct row *row);
@@ -156,8 +173,8 @@ extern const struct leaf leaves[];
 
 struct figures time_leaf(const struct leaf *leaf);
 
-/* Fewer batches, for a run that only sees to it that every call is measured. */
-void be_quick(void);
+/* Fewer batches and variants, for a run that only sees to it that every call is measured. */
+extern bool is_quick;
 
 /* ------------------------------------------------------------------------ */
 /* The Rust                                                                 */

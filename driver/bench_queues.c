@@ -1,5 +1,6 @@
 /* Lists, key queues, and the filter image. */
 #include "bench.h"
+#include "random.h"
 #include "state_iq.h"
 #include "state_mcq.h"
 
@@ -41,11 +42,20 @@ static void one_class_in_order(unsigned count, struct script *script)
         STEP(script, mcq_move_back, 0, i);
 }
 
+static void drawn_lists(unsigned count, struct script *script)
+{
+    uint8_t order[GOMXELI_MCQ_ENTRIES_MAX];
+    random_order(order, script->kind->entries);
+    for (unsigned i = 0; i < count; i++)
+        STEP(script, mcq_move_back, below(script->kind->opening[0]), order[i]);
+}
+
 static const struct shape mcq_shapes[] = {
     {.name = "all classes by turns", .build = by_turns},
     {.name = "all classes by turns, in order", .build = by_turns_in_order},
     {.name = "one class", .build = one_class},
     {.name = "one class, in order", .build = one_class_in_order},
+    DRAWN(drawn_lists),
     {.name = NULL},
 };
 
@@ -141,10 +151,24 @@ static void all_handed_back(unsigned count, struct script *script)
     none_queued(count, script);
 }
 
+/* The keys come in some order, and some of them are queued in another. */
+static void drawn_keys(unsigned count, struct script *script)
+{
+    uint8_t order[GOMXELI_IQ_ENTRIES_MAX];
+    random_order(order, count);
+    for (unsigned i = 0; i < count; i++)
+        insert(script, order[i]);
+    random_order(order, count);
+    for (unsigned i = 0; i < count; i++)
+        if (one_in(2))
+            STEP(script, iq_enqueue_back, nth_key(order[i], script->kind->opening[0]));
+}
+
 static const struct shape iq_shapes[] = {
     {.name = "all queued", .build = all_queued},
     {.name = "none queued", .build = none_queued},
     {.name = "queued in reverse", .build = queued_in_reverse},
+    DRAWN(drawn_keys),
     {.name = "all handed back", .build = all_handed_back, .panics = true},
     {.name = NULL},
 };

@@ -1,5 +1,6 @@
 /* Regular message reception. */
 #include "bench_tree.h"
+#include "random.h"
 #include "state_reg.h"
 
 /* ------------------------------------------------------------------------ */
@@ -113,9 +114,10 @@ static unsigned seven_each_last_first(unsigned i, unsigned active)
     return active - 1 - i / 7 % active;
 }
 
-static unsigned scattered(unsigned i, unsigned active)
+static unsigned any(unsigned i, unsigned active)
 {
-    return i * 37 % active;
+    (void)i;
+    return below(active);
 }
 
 static void waiting_on_one(unsigned count, struct script *script)
@@ -138,9 +140,32 @@ static void waiting_on_eighth(unsigned count, struct script *script)
     wait_behind(count / 8, count, seven_each_last_first, script);
 }
 
-static void waiting_scattered(unsigned count, struct script *script)
+static void waiting_drawn(unsigned count, struct script *script)
 {
-    wait_behind(count / 8, count, scattered, script);
+    wait_behind(count / 8, count, any, script);
+}
+
+/* A quarter of the subjects is shared by two or more. */
+static void enter_somewhere(struct script *script, unsigned i, unsigned count)
+{
+    enter(script, i, nth_subject(below(2 * count)));
+    poll(script, one_in(2));
+}
+
+/* All come in some order, and some go and come again. */
+static void drawn(unsigned count, struct script *script)
+{
+    uint8_t order[REGISTRY_ENTRIES];
+    random_order(order, count);
+    for (unsigned i = 0; i < count; i++)
+        enter_somewhere(script, order[i], count);
+    for (unsigned i = 0; i < count / 2; i++) {
+        STEP(script, reg_unregister, nth_entry(order[i]));
+        if (one_in(2))
+            enter_somewhere(script, order[i], count);
+        else
+            enter(script, order[i], nth_subject(below(2 * count)));
+    }
 }
 
 /* ------------------------------------------------------------------------ */
@@ -202,7 +227,8 @@ static const struct shape shapes[] = {
     {.name = "waiting on the lowest", .build = waiting_on_lowest},
     {.name = "waiting on a half", .build = waiting_on_half},
     {.name = "waiting on an eighth", .build = waiting_on_eighth},
-    {.name = "waiting on an eighth, scattered", .build = waiting_scattered},
+    {.name = "waiting on an eighth, drawn", .build = waiting_drawn, .is_drawn = true},
+    DRAWN(drawn),
     {.name = "all marked", .lay = all_marked},
     {.name = "waiting on one, in reverse", .lay = reverse_on_one},
     {.name = "waiting on the lowest, in reverse", .lay = reverse_on_lowest},

@@ -19,14 +19,11 @@ enum { ROOM = 40 * 1024, NEAR = 32 * 1024, FEWEST = 4, MOST = 64, ALIGNED = 64 }
 /* Of the Rust's, which keep their entries beside them. */
 enum { RUST_COPIES = 8 };
 
-enum { TRIES = 60, REPETITIONS = 400, LEAF_CALLS = 256 };
+enum { TRIES = 60, REPETITIONS = 300, CHECKED = 64, LEAF_CALLS = 256 };
 
-static unsigned tries = TRIES, repetitions = REPETITIONS;
-
-void be_quick(void)
+static unsigned in_haste(unsigned batches)
 {
-    tries = TRIES / 10;
-    repetitions = REPETITIONS / 20;
+    return is_quick ? batches / 15 : batches;
 }
 
 /* Keeps what is measured from being left out. */
@@ -80,18 +77,29 @@ static gomxeli_answer pass(uint8_t *state, size_t len, const uint32_t *n)
     return sum;
 }
 
-static double batch(call_function *call, const struct state *state, const uint32_t *n)
+/* The next variant in turn. */
+static unsigned next_of(const struct row *row)
+{
+    static unsigned turn;
+    return turn++ % row->variants;
+}
+
+static double batch(call_function *call, const struct row *row)
 {
     static uint8_t room[ROOM];
-    size_t apart = (state->len + ALIGNED - 1) / ALIGNED * ALIGNED;
+    const uint32_t *n[MOST];
+    size_t len = row->kind->len, apart = (len + ALIGNED - 1) / ALIGNED * ALIGNED;
     size_t fit = NEAR / apart;
     unsigned copies = fit < FEWEST ? FEWEST : fit > MOST ? MOST : (unsigned)fit;
     uint64_t sum = 0;
-    for (unsigned i = 0; i < copies; i++)
-        memcpy(room + i * apart, state->byte, state->len);
+    for (unsigned i = 0; i < copies; i++) {
+        unsigned variant = next_of(row);
+        memcpy(room + i * apart, row_bytes(row, variant), len);
+        n[i] = row->n[variant];
+    }
     double start = now();
     for (unsigned i = 0; i < copies; i++)
-        sum += call(room + i * apart, state->len, n);
+        sum += call(room + i * apart, len, n[i]);
     double time = now() - start;
     sink = sum;
     return share_of(time, copies);
@@ -99,14 +107,14 @@ static double batch(call_function *call, const struct state *state, const uint32
 
 static void take_batches(const struct row *row, struct figures *least)
 {
-    take_least(&least->pass, batch(pass, &row->state, row->n));
-    take_least(&least->call, batch(row->call->call, &row->state, row->n));
+    take_least(&least->pass, batch(pass, row));
+    take_least(&least->call, batch(row->call->call, row));
 }
 
 struct figures try_row(const struct row *row)
 {
     struct figures least = {0, 0, 0};
-    for (unsigned i = 0; i < tries; i++)
+    for (unsigned i = 0; i < in_haste(TRIES); i++)
         take_batches(row, &least);
     return least;
 }
@@ -126,22 +134,25 @@ const struct rust_kind *rust_kind(const char *name, uint32_t entries)
 
 #endif
 
-/* The Rust's call of a row, and how to come to its state. */
-struct rust_row {
-    const struct row *row;
-    const struct rust_kind *kind;
-    const struct script *script;
-    rust_function *step[MOST_STEPS];
-    rust_function *pick; /* where the call is a settlement that its pick stands for */
-    rust_function *call;
-    uint32_t n[MOST_NUMBERS];
-};
-
 static void fail(const char *call, const char *state, const char *what)
 {
     fprintf(stderr, "bench: %s, %s: %s\n", call, state, what);
     exit(1);
 }
+
+/* The Rust's call of a row. */
+struct rust_row {
+    const struct row *row;
+    const struct rust_kind *kind;
+    rust_function *pick; /* where the call is a settlement that its pick stands for */
+    rust_function *call;
+};
+
+/* One that is made for a variant, and the numbers of its call. */
+struct rust_made {
+    void *made;
+    uint32_t n[MOST_NUMBERS];
+};
 
 /* The calls that are put to the Rust: those accepted, and those refused as it refuses. */
 static bool is_put(gomxeli_answer answer)
@@ -151,74 +162,74 @@ static bool is_put(gomxeli_answer answer)
            number == GOMXELI_OCCUPIED || number == GOMXELI_NOT_TAKEN || number == GOMXELI_NO_KEY;
 }
 
-static gomxeli_answer our_answer(const struct row *row)
+static gomxeli_answer our_answer(const struct row *row, unsigned variant)
 {
-    static struct state copy;
-    copy = row->state;
-    return row->call->call(copy.byte, copy.len, row->n);
-}
-
-/* An opening looks at nothing: the Rust makes one anew. */
-static void rust_steps(const struct row *row, struct rust_row *rust)
-{
-    static const struct script none;
-    rust->script = row->call->call == row->kind->open ? &none : &row->script;
-    for (unsigned i = 0; i < rust->script->count; i++) {
-        rust->step[i] = rust->kind->call(rust->script->step[i].name);
-        if (rust->step[i] == NULL)
-            fail(row->call->name, row->shape->name, "the Rust has no such step");
-    }
-}
-
-/* A pick's numbers wait for the settlement's call. */
-static void rust_calls(const struct row *row, struct rust_row *rust)
-{
-    const struct call *settlement = row->call->settlement;
-    rust_function *call = rust->kind->call(row->call->name);
-    rust->pick = settlement != NULL ? call : NULL;
-    rust->call = settlement != NULL ? rust->kind->call(settlement->name) : call;
-    memcpy(rust->n, row->n, sizeof rust->n);
-    if (settlement != NULL)
-        settlement->numbers(&row->state, row->place, rust->n);
+    static struct state state;
+    row_state(row, variant, &state);
+    return row->call->call(state.byte, state.len, row->n[variant]);
 }
 
 static bool rust_find(const struct row *row, struct rust_row *rust)
 {
-    rust->kind = rust_kind(row->kind->name, row->kind->entries);
+    const struct call *settlement = row->call->settlement;
     rust->row = row;
+    rust->kind = rust_kind(row->kind->name, row->kind->entries);
     if (rust->kind == NULL || row->shape->lay != NULL || row->shape->panics ||
-        !is_put(our_answer(row)))
+        !is_put(our_answer(row, 0)))
         return false;
-    rust_calls(row, rust);
-    if (rust->call == NULL)
-        return false;
-    rust_steps(row, rust);
-    return true;
+    rust_function *call = rust->kind->call(row->call->name);
+    rust->pick = settlement != NULL ? call : NULL;
+    rust->call = settlement != NULL ? rust->kind->call(settlement->name) : call;
+    return rust->call != NULL;
 }
 
-static void *rust_made(const struct rust_row *rust)
+static void rust_play(const struct rust_row *rust, unsigned variant, void *made)
 {
-    void *made = rust->kind->make(rust->row->kind->opening);
-    for (unsigned i = 0; i < rust->script->count; i++)
-        rust->step[i](made, rust->script->step[i].n);
+    static struct script script;
+    row_script(rust->row, variant, &script);
+    for (unsigned i = 0; i < script.count; i++) {
+        rust_function *step = rust->kind->call(script.step[i].name);
+        if (step == NULL)
+            fail(script.step[i].name, rust->row->shape->name, "the Rust has no such call");
+        step(made, script.step[i].n);
+    }
+}
+
+/* A pick's numbers wait for the settlement's call, which has its own. */
+static void rust_pick(const struct rust_row *rust, unsigned variant, struct rust_made *made)
+{
+    static struct state state;
+    rust->pick(made->made, rust->row->n[variant]);
+    row_state(rust->row, variant, &state);
+    rust->row->call->settlement->numbers(&state, rust->row->place, made->n);
+}
+
+/* An opening looks at nothing: for that, one that is new. */
+static struct rust_made rust_make(const struct rust_row *rust, unsigned variant)
+{
+    const struct row *row = rust->row;
+    struct rust_made made = {rust->kind->make(row->kind->opening), {0}};
+    memcpy(made.n, row->n[variant], sizeof made.n);
+    if (row->call->call != row->kind->open)
+        rust_play(rust, variant, made.made);
     if (rust->pick != NULL)
-        rust->pick(made, rust->row->n);
+        rust_pick(rust, variant, &made);
     return made;
 }
 
 static double rust_batch(const struct rust_row *rust)
 {
-    void *made[RUST_COPIES];
+    struct rust_made made[RUST_COPIES];
     uint64_t sum = 0;
     for (unsigned i = 0; i < RUST_COPIES; i++)
-        made[i] = rust_made(rust);
+        made[i] = rust_make(rust, next_of(rust->row));
     double start = now();
     for (unsigned i = 0; i < RUST_COPIES; i++)
-        sum += rust->call(made[i], rust->n);
+        sum += rust->call(made[i].made, made[i].n);
     double time = now() - start;
     sink = sum;
     for (unsigned i = 0; i < RUST_COPIES; i++)
-        rust->kind->drop(made[i]);
+        rust->kind->drop(made[i].made);
     return share_of(time, RUST_COPIES);
 }
 
@@ -231,13 +242,13 @@ static gomxeli_answer compared(const struct call *call, gomxeli_answer answer)
     return call->wakes ? answer & ~what : answer;
 }
 
-static void check_answers(const struct rust_row *rust)
+static void check_answer(const struct rust_row *rust, unsigned variant)
 {
     const struct row *row = rust->row;
-    void *made = rust_made(rust);
-    gomxeli_answer theirs = rust->call(made, rust->n);
-    rust->kind->drop(made);
-    if (compared(row->call, theirs) != compared(row->call, our_answer(row)))
+    struct rust_made made = rust_make(rust, variant);
+    gomxeli_answer theirs = rust->call(made.made, made.n);
+    rust->kind->drop(made.made);
+    if (compared(row->call, theirs) != compared(row->call, our_answer(row, variant)))
         fail(row->call->name, row->shape->name, "the Rust answers otherwise");
 }
 
@@ -247,12 +258,12 @@ static void check_answers(const struct rust_row *rust)
 
 struct figures time_row(const struct row *row)
 {
-    static struct rust_row rust;
+    struct rust_row rust;
     struct figures least = {0, 0, 0};
     bool has_rust = rust_find(row, &rust);
-    if (has_rust)
-        check_answers(&rust);
-    for (unsigned i = 0; i < repetitions; i++) {
+    for (unsigned i = 0; has_rust && i < row->variants && i < CHECKED; i++)
+        check_answer(&rust, i);
+    for (unsigned i = 0; i < in_haste(REPETITIONS); i++) {
         take_batches(row, &least);
         if (has_rust)
             take_least(&least.rust, rust_batch(&rust));
@@ -299,7 +310,7 @@ struct figures time_leaf(const struct leaf *leaf)
     struct figures least = {0, 0, 0};
     if (rust != NULL)
         check_leaf(leaf, rust);
-    for (unsigned i = 0; i < repetitions; i++) {
+    for (unsigned i = 0; i < in_haste(REPETITIONS); i++) {
         take_least(&least.call, leaf_batch(leaf, NULL));
         if (rust != NULL)
             take_least(&least.rust, leaf_batch(leaf, rust));

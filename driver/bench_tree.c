@@ -1,6 +1,7 @@
 /* Loop-back message reception and requests. */
 #include "bench_tree.h"
 
+#include "random.h"
 #include "state_lb.h"
 
 /* ------------------------------------------------------------------------ */
@@ -109,14 +110,33 @@ static void own_services(unsigned count, struct script *script)
         STEP(script, req_register, nth_entry(i), FIRST_SUBJECT + 3 * i);
 }
 
+static void drawn_subjects(unsigned count, struct script *script)
+{
+    uint8_t order[REGISTRY_ENTRIES];
+    random_order(order, count);
+    for (unsigned i = 0; i < count; i++)
+        STEP(script, lb_register, nth_entry(order[i]), nth_subject(below(2 * count)));
+}
+
+/* One of two in each four, so that the one behind it is free. */
+static void drawn_services(unsigned count, struct script *script)
+{
+    uint8_t order[REGISTRY_ENTRIES];
+    random_order(order, count);
+    for (unsigned i = 0; i < count; i++)
+        STEP(script, req_register, nth_entry(i), 4u * order[i] + below(2));
+}
+
 static const struct shape lb_shapes[] = {
     {.name = "own subjects", .build = own_subjects},
     {.name = "one subject", .build = one_subject},
+    DRAWN(drawn_subjects),
     {.name = NULL},
 };
 
 static const struct shape req_shapes[] = {
     {.name = "own services", .build = own_services},
+    DRAWN(drawn_services),
     {.name = NULL},
 };
 

@@ -1,5 +1,6 @@
 /* Message and response transmission. */
 #include "bench_tree.h"
+#include "random.h"
 #include "state_tx.h"
 
 enum { MTU = 8, LAST_FRAME = 64, OTHER_FRAME = 0, ALL_PRIORITIES = 255 };
@@ -102,11 +103,28 @@ static void none_ready(unsigned count, struct script *script)
     enter_all(count, 0, script);
 }
 
+/* Half of them have a transfer started, all some readiness. */
+static void drawn(unsigned count, struct script *script)
+{
+    uint8_t order[REGISTRY_ENTRIES];
+    unsigned half = count / 2;
+    random_order(order, count);
+    for (unsigned i = 0; i < half; i++)
+        start(script, order[i], below(PRIORITIES));
+    for (unsigned i = 0; i < count; i++) {
+        if (i < half)
+            update(script, order[i], below(ALL_PRIORITIES + 1));
+        else
+            enter(script, order[i], below(ALL_PRIORITIES + 1));
+    }
+}
+
 static const struct shape shapes[] = {
     {.name = "all queues by turns", .build = all_queues},
     {.name = "all in the last queue", .build = last_queue},
     {.name = "all ready at all priorities", .build = all_priorities},
     {.name = "none ready", .build = none_ready},
+    DRAWN(drawn),
     {.name = NULL},
 };
 

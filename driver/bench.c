@@ -1,6 +1,6 @@
 /*
- * bench [quick] [FILE]: what each exported call costs, as a table for people and, where
- * a file is named, as lines of fields that tabs part.
+ * bench FILE [quick]: what each exported call costs, as a table for people and, in the
+ * file, as lines of fields that tabs part.
  */
 #include <stdio.h>
 #include <string.h>
@@ -64,8 +64,6 @@ static void write_number(double number, bool is_there)
 static void write_fields(const struct measured *m)
 {
     const struct figures *f = &m->figures;
-    if (fields == NULL)
-        return;
     fprintf(fields, "%s\t%s\t%s\t%u\t", m->kind, m->call, m->in, m->entries);
     print_state(fields, m);
     write_number(f->call, true);
@@ -78,8 +76,8 @@ static void write_fields(const struct measured *m)
 
 static void write_heads(void)
 {
-    if (fields != NULL)
-        fprintf(fields, "kind\tcall\tin\tentries\tstate\tns\tpass_ns\tpasses\trust_ns\trust_ratio\n");
+    fprintf(fields, "kind\tcall\tin\tentries\tstate");
+    fprintf(fields, "\tns\tpass_ns\tpasses\trust_ns\trust_ratio\n");
 }
 
 /* ------------------------------------------------------------------------ */
@@ -232,21 +230,19 @@ static void bench_all(void)
 
 int main(int argc, char **argv)
 {
-    int next = 1;
-    if (next < argc && strcmp(argv[next], "quick") == 0) {
-        is_quick = true;
-        next++;
+    is_quick = argc == 3 && strcmp(argv[2], "quick") == 0;
+    if (argc != (is_quick ? 3 : 2)) {
+        fprintf(stderr, "usage: bench FILE [quick]\n");
+        return 2;
     }
-    if (next < argc) {
-        fields = fopen(argv[next], "w");
-        if (fields == NULL) {
-            perror(argv[next]);
-            return 1;
-        }
+    fields = fopen(argv[1], "w");
+    if (fields == NULL) {
+        perror(argv[1]);
+        return 1;
     }
     bench_all();
-    if (fields != NULL && fclose(fields) != 0) {
-        perror(argv[next]);
+    if (fclose(fields) != 0) {
+        perror(argv[1]);
         return 1;
     }
     return was_absurd;

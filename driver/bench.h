@@ -78,6 +78,7 @@ struct call {
     void (*prepare)(const struct state *state, enum place place, struct script *script);
     bool needs_room; /* for one entry more */
     bool wakes;      /* what is a wake flag, which the Rust does not answer */
+    bool is_test;    /* not the Rust's */
     /* A pick: the Rust makes it and its settlement in one call, that of this one. */
     const struct call *settlement;
 };
@@ -100,7 +101,7 @@ struct kind {
  * The test of the state alone, as a call of a kind: by one that has a number past all
  * ends, and so does nothing after it.
  */
-#define TEST_ALONE(kind) .name = "the test alone", .call = kind##_test
+#define TEST_ALONE(kind) .name = "the test alone", .call = kind##_test, .is_test = true
 #define TEST_BY(kind, called, past) \
     static gomxeli_answer kind##_test(uint8_t *state, size_t len, const uint32_t *n) \
     { \

@@ -169,30 +169,42 @@ static gomxeli_answer our_answer(const struct row *row, unsigned variant)
     return row->call->call(state.byte, state.len, row->n[variant]);
 }
 
+static bool are_put(const struct row *row)
+{
+    for (unsigned i = 0; i < row->variants; i++)
+        if (!is_put(our_answer(row, i)))
+            return false;
+    return true;
+}
+
+static rust_function *rust_call(const struct rust_kind *kind, const char *name)
+{
+    rust_function *call = kind->call(name);
+    if (call == NULL)
+        fail(name, "any state", "the Rust has no such call");
+    return call;
+}
+
+/* Whether there is a call of the Rust's to compare with. */
 static bool rust_find(const struct row *row, struct rust_row *rust)
 {
     const struct call *settlement = row->call->settlement;
     rust->row = row;
     rust->kind = rust_kind(row->kind->name, row->kind->entries);
-    if (rust->kind == NULL || row->shape->lay != NULL || row->shape->panics ||
-        !is_put(our_answer(row, 0)))
+    if (rust->kind == NULL || row->call->is_test || row->shape->lay != NULL ||
+        row->shape->panics || !are_put(row))
         return false;
-    rust_function *call = rust->kind->call(row->call->name);
-    rust->pick = settlement != NULL ? call : NULL;
-    rust->call = settlement != NULL ? rust->kind->call(settlement->name) : call;
-    return rust->call != NULL;
+    rust->call = rust_call(rust->kind, settlement != NULL ? settlement->name : row->call->name);
+    rust->pick = settlement != NULL ? rust_call(rust->kind, row->call->name) : NULL;
+    return true;
 }
 
 static void rust_play(const struct rust_row *rust, unsigned variant, void *made)
 {
     static struct script script;
     row_script(rust->row, variant, &script);
-    for (unsigned i = 0; i < script.count; i++) {
-        rust_function *step = rust->kind->call(script.step[i].name);
-        if (step == NULL)
-            fail(script.step[i].name, rust->row->shape->name, "the Rust has no such call");
-        step(made, script.step[i].n);
-    }
+    for (unsigned i = 0; i < script.count; i++)
+        rust_call(rust->kind, script.step[i].name)(made, script.step[i].n);
 }
 
 /* A pick's numbers wait for the settlement's call, which has its own. */
@@ -306,7 +318,7 @@ static void check_leaf(const struct leaf *leaf, rust_function *rust)
 struct figures time_leaf(const struct leaf *leaf)
 {
     const struct rust_kind *kind = rust_kind("leaves", 0);
-    rust_function *rust = kind != NULL ? kind->call(leaf->name) : NULL;
+    rust_function *rust = kind != NULL ? rust_call(kind, leaf->name) : NULL;
     struct figures least = {0, 0, 0};
     if (rust != NULL)
         check_leaf(leaf, rust);

@@ -145,7 +145,7 @@ static void waiting_drawn(unsigned count, struct script *script)
     wait_behind(count / 8, count, any, script);
 }
 
-/* A quarter of the subjects is shared by two or more. */
+/* Of the subjects that are taken, a quarter is shared. */
 static void enter_somewhere(struct script *script, unsigned i, unsigned count)
 {
     enter(script, i, nth_subject(below(2 * count)));

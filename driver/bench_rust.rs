@@ -68,7 +68,7 @@ fn done((): ()) -> Answer {
     Answer::DONE
 }
 
-fn none_or_no_key<E>(result: Result<(), E>) -> Answer {
+fn done_or_no_key<E>(result: Result<(), E>) -> Answer {
     result.map_or(Answer::refused(15), done)
 }
 
@@ -234,9 +234,9 @@ macro_rules! keys {
             "iq_remove": Answer::value(it.remove(n[0] as u16)),
             "iq_front": Answer::found(it.front()),
             "iq_back": Answer::found(it.back()),
-            "iq_enqueue_front": none_or_no_key(it.enqueue_front(n[0] as u16)),
-            "iq_enqueue_back": none_or_no_key(it.enqueue_back(n[0] as u16)),
-            "iq_dequeue": none_or_no_key(it.dequeue(n[0] as u16)),
+            "iq_enqueue_front": done_or_no_key(it.enqueue_front(n[0] as u16)),
+            "iq_enqueue_back": done_or_no_key(it.enqueue_back(n[0] as u16)),
+            "iq_dequeue": done_or_no_key(it.dequeue(n[0] as u16)),
         })
     };
 }

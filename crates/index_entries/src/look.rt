@@ -7,6 +7,7 @@ ghost use Rattle.index_entries.specs.Keys.{slot, found};
 ghost use Rattle.index_entries.specs.Bytes.{wordAt, entries, value, read, wholeB};
 ghost use Rattle.index_entries.specs.Answers.{placeOf, heldOf};
 
+// The entry that has a key, or none.
 pub enum Place {
     At(usize),
     Nowhere,

@@ -1,5 +1,6 @@
 //! Compares the exports of libgomxeli.a with the unchanged Rust, in one process.
 
+mod answer;
 mod bounds;
 mod cases;
 mod demand;

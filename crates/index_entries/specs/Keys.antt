@@ -52,7 +52,7 @@ Within kMax free = Unit {0}
 Within kMax (holds k v) = (k ≤ kMax) × (v < 2 ^ 32)
 Within kMax (spent k) = k ≤ kMax
 
--- whole, on the plain meaning: no two entries have one key, and the free entries are those without a key
+-- whole, on the plain meaning: no two entries have the same key, and the free entries are those without a key
 pub record FairKeys (m : Keys) : Type 0 where
   pub sizes : keysAllowed (m .kMax) (length (m .slots)) ≡ true
   pub within : (i : ℕ) → Within (m .kMax) (slot m i)

@@ -20,7 +20,7 @@ use Rattle.multi_cycle_list.proofs.Arcs.{row-count}
 use Rattle.index_entries.specs.Keys.{Slot, free, holds, spent, Keys, hasKey, isFree, slot, Found, missing, at, found, FairKeys, withLists, changed, fresh}
 use Rattle.index_entries.specs.Bytes.{kMax, entries, keyWord, value, read, wholeB}
 use Rattle.index_entries.specs.Laid.{laid}
-use Rattle.index_entries.specs.Answers.{placeOf, heldOf}
+use Rattle.index_entries.specs.Inner.{placeOf, heldOf}
 use Rattle.index_entries.specs.declared.look.Place.the-variants.{At, Nowhere}
 use Rattle.index_entries.specs.declared.look.Held.the-variants as held-is
 use Rattle.index_entries.proofs.Find.{Looks, looks, key-not-free}

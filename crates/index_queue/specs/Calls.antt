@@ -27,7 +27,7 @@ isAt (at i s) = true
 unfoldable pub contains : ℕ → Keys → Result Answer Keys
 contains k m = done (Holds (isAt (found m k))) m
 
--- the value found. Where it was handed back the papers leave the answer open: here there is none
+-- the value found. Where it was handed back document 01 leaves the answer open: here there is none
 abbrev pub valueIn : Found → Answer
 valueIn missing = Nothing
 valueIn (at i free) = Nothing
@@ -37,7 +37,7 @@ valueIn (at i (spent k)) = Nothing
 unfoldable pub get : ℕ → Keys → Result Answer Keys
 get k m = done (valueIn (found m k)) m
 
--- `get_mut` as a store: the value v where the key has one, and whether it was stored. Open in the papers, as for `get`, where it was handed back
+-- `get_mut` as a store: the value v where the key has one, and whether it was stored. Open in document 01, as for `get`, where it was handed back
 abbrev pub storedIn : ℕ → Keys → Found → Result Answer Keys
 storedIn v m missing = done (Holds false) m
 storedIn v m (at i free) = done (Holds false) m

@@ -1,4 +1,4 @@
-// What the calls do once the bytes are known whole and the class and the entry in the size. Inner: these cross crates and may require.
+// What the calls do once the bytes are known whole and the class and the entry are within the sizes. Inner functions: other crates call them, and they may have preconditions.
 use crate::cycle::alone;
 use crate::cycle::move_after;
 use crate::cycle::move_before;

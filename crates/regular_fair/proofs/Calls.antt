@@ -18,7 +18,8 @@ use Rattle.regular.specs.Registry.{Registry}
 use Rattle.regular.specs.Steps.{Call, Register, Unregister, HubPushStart, PollPop, HubPushNext, Gaps, gaps, waits, joins, register, leaves, leavesInactive, unregister, withWalk, hubPushStart, hubPushNext, pushNext}
 use Rattle.regular.specs.declared.Answer.{Answer}
 use Rattle.regular.specs.declared.Answer.the-variants.{Refused, Accepted}
-use Rattle.regular_fair.specs.Moves.{Registered, moved, into, covers}
+use Rattle.regular_fair.specs.Moves.{Registered}
+use Rattle.regular_fair.specs.Inner.{moved, into, covers}
 use Rattle.entry_tree.proofs.Count.{any-true, any-false, count-append, same-without}
 use Rattle.regular_fair.proofs.Sound.{waits-sound, joins-sound, inactive-sound, leaves-sound, walk-sound}
 use Rattle.regular_fair.proofs.Inv.{Inv, entryOf, entries-back, entries-without}

@@ -16,7 +16,8 @@ use Rattle.regular.specs.Steps.{Call, PollPop, step, pollPop}
 use Rattle.regular.specs.declared.Answer.{Answer}
 use Rattle.regular.specs.declared.Answer.the-variants.{Refused, AddSubject, RemoveSubjectRange, Nothing}
 use Rattle.regular_fair.specs.Moves as moves
-use Rattle.regular_fair.specs.Moves.{Registered, moved, into, covers, isUpdate}
+use Rattle.regular_fair.specs.Moves.{Registered}
+use Rattle.regular_fair.specs.Inner.{moved, into, covers, isUpdate}
 use Rattle.entry_tree.proofs.Count.{same, diff, compareEq, T-true, any-true, true-any, false-any, count-append, count-all}
 use Rattle.regular_fair.proofs.Queue.{count-first, count-nil}
 use Rattle.multi_cycle_list.proofs.Lists.{count-other}

@@ -13,7 +13,7 @@ use Rattle.entry_tree.proofs.Changes.{without-none}
 use Rattle.entry_tree.proofs.Walking.{find-rest}
 use Rattle.regular.specs.Steps.{newMark, headGaps, isHead, gaps}
 use Rattle.regular.specs.declared.Answer.the-variants.{AddSubject, RemoveSubjectRange}
-use Rattle.regular_fair.specs.Moves.{into}
+use Rattle.regular_fair.specs.Inner.{into}
 use Rattle.entry_tree.proofs.Count.{same, diff, below, above, compareEq, compareLe, eqb-self, count-self, count-subject, first-only, count-off, not-there}
 use Rattle.multi_cycle_list.proofs.Lists.{count-append, count-kept}
 use Rattle.regular_fair.proofs.Queue.{count-maybe, count-maybe-other}

@@ -18,7 +18,8 @@ use Rattle.regular.specs.declared.Answer.the-variants.{AddSubject, RemoveSubjec
 use Rattle.regular.specs.declared.Popped as popped
 use Rattle.regular.specs.declared.Popped.the-variants as pops
 use Rattle.regular_fair.specs.Moves as moves
-use Rattle.regular_fair.specs.Moves.{Registered, activated, into}
+use Rattle.regular_fair.specs.Moves.{Registered, activated}
+use Rattle.regular_fair.specs.Inner.{into}
 use Rattle.entry_tree.proofs.Count.{below, above, compareLe, eqb-self, count-subject, first-only, same-without, count-append}
 use Rattle.regular_fair.proofs.Queue.{count-first}
 use Rattle.regular_fair.proofs.Good.{front-clear, past-clear}

@@ -17,7 +17,7 @@ use Rattle.entry_tree.proofs.Walking.{find-after, find-rest, next-in, none-some
 use Rattle.regular.specs.Registry.{Registry, fresh}
 use Rattle.regular.specs.Steps.{newMark, headGaps, isHead, gaps, goesOn, waits, joins, leaves, leavesInactive, withCleanUp, becomesActive, withWalk}
 use Rattle.regular.specs.declared.Answer.the-variants.{AddSubject, RemoveSubjectRange}
-use Rattle.regular_fair.specs.Moves.{into}
+use Rattle.regular_fair.specs.Inner.{into}
 use Rattle.entry_tree.proofs.Count.{same, diff, below, above, compareEq, compareLe, T-true, any-true, true-any, count-self, not-there}
 use Rattle.regular_fair.proofs.Queue.{count-first, count-le, count-back, count-joined, count-maybe, count-maybe-other, count-nil}
 use Rattle.regular_fair.proofs.Facts.{Facts, onil}

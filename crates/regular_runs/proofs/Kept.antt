@@ -18,7 +18,8 @@ use Rattle.regular.specs.Steps.{Call, step}
 use Rattle.regular.specs.Calls.{on, bytes, openedBytes, opening}
 use Rattle.regular.specs.declared.Answer.{Answer}
 use Rattle.regular.specs.declared.Answer.the-variants.{Refused, Done}
-use Rattle.regular_fair.specs.Moves.{Registered, lists, moved, into}
+use Rattle.regular_fair.specs.Moves.{Registered, lists}
+use Rattle.regular_fair.specs.Inner.{moved, into}
 use Rattle.regular_fair.proofs.Inv.{Inv}
 use Rattle.regular_fair.proofs.Demand as demand
 use Rattle.regular_fair.proofs.Mean.{means, fresh-fair}

@@ -18,8 +18,9 @@ use Rattle.regular.specs.Bytes.{read}
 use Rattle.regular.specs.Steps.{PollPop, pollPop}
 use Rattle.regular.specs.declared.Answer.{Answer}
 use Rattle.regular.specs.declared.Answer.the-variants.{AddSubject, RemoveSubjectRange, Nothing}
-use Rattle.regular_fair.specs.Moves as moves
-use Rattle.regular_fair.specs.Moves.{Registered, isUpdate, isAddOrNothing, into, activated}
+use Rattle.regular_fair.specs.Inner as moves
+use Rattle.regular_fair.specs.Moves.{Registered, activated}
+use Rattle.regular_fair.specs.Inner.{isUpdate, isAddOrNothing, into}
 use Rattle.regular_fair.proofs.Poll as poll
 use Rattle.regular_fair.proofs.Poll.{due}
 use Rattle.regular_fair.proofs.Demand as demand

@@ -14,8 +14,9 @@ use Rattle.regular.specs.Bytes.{read}
 use Rattle.regular.specs.Steps.{Call, step, Register, Unregister, HubPushStart, HubPushNext}
 use Rattle.regular.specs.Calls.{on, bytes, openedBytes, opening}
 use Rattle.regular.specs.declared.Answer.{Answer}
-use Rattle.regular_fair.specs.Moves as moves
-use Rattle.regular_fair.specs.Moves.{Registered, joined, taken, isAccepted}
+use Rattle.regular_fair.specs.Inner as moves
+use Rattle.regular_fair.specs.Moves.{Registered, joined, taken}
+use Rattle.regular_fair.specs.Inner.{isAccepted}
 use Rattle.regular_fair.proofs.Poll.{due}
 use Rattle.regular_fair.proofs.Demand as demand
 use Rattle.filter_image.specs.Image as image

@@ -99,7 +99,7 @@ put polls a i = putUpdate a i
 put opens a i = i
 put other a i = i
 
--- a poll's answer is a removal that covers the subject x
+-- a poll's answer is a removal that covers the subject y
 abbrev pub covers : Part → ℕ → ℕ → Bool
 covers (registers e x) a y = false
 covers (removes e) a y = false
@@ -132,7 +132,7 @@ run (c ∷ cs) w = run cs (after c w)
 abbrev pub begin : ℕ → List ℕ → List ℕ → Now
 begin n b i = record { state = (does (RegOpen n) b) .bytes; image = image.bytes i (image.opening i); registered = lists [] [] }
 
--- no call of the list opens the registry anew
+-- a call opened the registry anew; no call of a list does
 abbrev pub isOpened : Part → ℕ → Bool
 isOpened (registers e x) a = false
 isOpened (removes e) a = false

@@ -1,4 +1,4 @@
-// What the transmit registries' calls do once the bytes are known whole. Inner: these cross crates and may require.
+// What the transmit registries' calls do once the bytes are known whole. Inner functions: other crates call them, and they may have preconditions.
 use emcyphal_core::Priority;
 use emcyphal_core::PrioritySet;
 use format::TailByte;

@@ -48,9 +48,13 @@ startedOf (some s) = s .started
 
 -- ---- registering, removing, new readiness
 
+-- the entry e, which has the started set t and stands in the queue `from`, gets the readiness r
+abbrev pub updated : ℕ → ℕ → ℕ → ℕ → TxQueue → Result Answer TxQueue
+updated e from r t m = done (Accepted (wakes from (place (sets r t)) (m .mask))) (becomes e from (sets r t) m)
+
 -- an empty started set, and the readiness given: placed as by an update
 abbrev pub registers : ℕ → ℕ → TxQueue → Result Answer TxQueue
-registers e r m = done (Accepted (wakes 16 (place (sets r 0)) (m .mask))) (becomes e 16 (sets r 0) m)
+registers e r m = updated e 16 r 0 m
 
 unfoldable pub register : ℕ → ℕ → TxQueue → Result Answer TxQueue
 register e r m =
@@ -65,10 +69,6 @@ unregister e m =
     cond (isOpen (m .pick)) (refuse (Refused 10)) (
     cond (isRegistered (setsOf m e)) (done (Accepted false) (becomes e (place (setsOf m e)) none m)) (
     refuse (Refused 8))))
-
--- the entry e, which has the started set t and stands in the queue `from`
-abbrev pub updated : ℕ → ℕ → ℕ → ℕ → TxQueue → Result Answer TxQueue
-updated e from r t m = done (Accepted (wakes from (place (sets r t)) (m .mask))) (becomes e from (sets r t) m)
 
 unfoldable pub update : ℕ → ℕ → TxQueue → Result Answer TxQueue
 update e r m =

@@ -11,11 +11,11 @@ use Rattle.state.specs.Result.{Result, refuse}
 use Rattle.entry_tree.specs.Pairs.{Place, hasEntry, hasSubject, placeOf}
 use Rattle.entry_tree.specs.Places as tree
 use Rattle.entry_tree.specs.Walks.{firstOn}
-use Rattle.regular.specs.Registry as regular
+use Rattle.regular.specs.Registry as registry
 use Rattle.regular.specs.Bytes as regBytes
 use Rattle.regular.specs.Steps as reg
 use Rattle.regular.specs.Calls as regCalls
-use Rattle.regular.specs.declared.Answer as regularly
+use Rattle.regular.specs.declared.Answer as regular
 use Rattle.regular.specs.declared.Answer.the-variants as regular-says
 use Rattle.regular.specs.declared.Popped as popped
 use Rattle.regular.specs.declared.Popped.the-variants as pops
@@ -42,13 +42,13 @@ pushed-zero (some e) = zero-number _ _ _
 
 -- ---- regular
 
-abbrev pub Regular : List ℕ → (regular.Registry → Result regularly.Answer regular.Registry) → Type 0
-Regular l g = (m : regular.Registry) → Ends l regularAnswer (g m)
+abbrev pub Regular : List ℕ → (registry.Registry → Result regular.Answer registry.Registry) → Type 0
+Regular l g = (m : registry.Registry) → Ends l regularAnswer (g m)
 
-no-regular : {l : List ℕ} (n : ℕ) → among n l ≡ true → Ends {M = regular.Registry} l regularAnswer (refuse (regular-says.Refused n))
+no-regular : {l : List ℕ} (n : ℕ) → among n l ≡ true → Ends {M = registry.Registry} l regularAnswer (refuse (regular-says.Refused n))
 no-regular {l = l} n h = refuses (numbered l n h)
 
-pub on-regular : {l : List ℕ} {g : regular.Registry → Result regularly.Answer regular.Registry} (b : List ℕ) → Regular (1 ∷ l) g → Ends (1 ∷ l) regularAnswer (regCalls.on g b)
+pub on-regular : {l : List ℕ} {g : registry.Registry → Result regular.Answer registry.Registry} (b : List ℕ) → Regular (1 ∷ l) g → Ends (1 ∷ l) regularAnswer (regCalls.on g b)
 on-regular {g} b h = on-bytes regBytes.wholeB regBytes.read (regular-says.Refused 1) g b (no-regular 1 refl) h
 
 pub reg-register : (e x : ℕ) → Regular (refusals (RegRegister e x)) (reg.register e x)
@@ -62,7 +62,7 @@ reg-register e x m =
     either (eqb (m .slots) 0) (no-regular 6 refl) (
     answers (zero-number _ _ _)))))))
 
-reg-active : (e : ℕ) (p : Place) (g : reg.Gaps) (m : regular.Registry) → Ends (refusals (RegUnregister e)) regularAnswer (reg.unregisterActive e p g m)
+reg-active : (e : ℕ) (p : Place) (g : reg.Gaps) (m : registry.Registry) → Ends (refusals (RegUnregister e)) regularAnswer (reg.unregisterActive e p g m)
 reg-active e p g m = either (ltb 65535 (m .slots + g .more)) (no-regular 9 refl) (answers (zero-number _ _ _))
 
 pub reg-unregister : (e : ℕ) → Regular (refusals (RegUnregister e)) (reg.unregister e)
@@ -73,7 +73,7 @@ reg-unregister e m =
     either (hasEntry e (m .active)) (reg-active e (placeOf e (m .active)) (reg.gaps e (placeOf e (m .active)) (m .cleanUp) (m .lastGap)) m) (
     no-regular 8 refl)))
 
-on-step : {l : List ℕ} (p : popped.Popped) (m : regular.Registry) (rest : Result regularly.Answer regular.Registry) → Ends l regularAnswer rest → Ends l regularAnswer (reg.onStep p m rest)
+on-step : {l : List ℕ} (p : popped.Popped) (m : registry.Registry) (rest : Result regular.Answer registry.Registry) → Ends l regularAnswer rest → Ends l regularAnswer (reg.onStep p m rest)
 on-step (pops.AddSubject x) m rest h = answers (zero-number _ _ _)
 on-step (pops.RemoveSubjectRange a b) m rest h = answers (zero-number _ _ _)
 on-step pops.CallAgain m rest h = h

@@ -3,6 +3,7 @@ use Prim.Native.Nat.{ℕ, suc}
 use mathlib.Core.Path.{_≡_, refl}
 use mathlib.Core.Bool.{Bool, true, false, _&&_, _||_}
 use mathlib.Core.List.{List, [], _∷_}
+use native.Mathlib.Omega.{arith}
 use lib.Dec.{ltb, eqb}
 use borrow.Author.Tests.{eq-eqb}
 use Rattle.state.specs.Lengths.{listsAllowed, listsLength, keysAllowed, keysLength}
@@ -22,8 +23,9 @@ use Rattle.index_queue.specs.declared.Answer as key
 use Rattle.index_queue.specs.declared.Answer.the-variants as key-says
 use Rattle.gomxeli.specs.Answers.{packed, number, listAnswer, keyAnswer}
 use Rattle.gomxeli.specs.Calls.{McqFront, McqBack, McqIsEmpty, McqIsFront, McqIsBack, McqRemove, McqOpen, McqMoveFront, McqMoveBack, IqFront, IqBack, IqContains, IqGet, IqRemove, IqEnqueueFront, IqEnqueueBack, IqDequeue, IqOpen, IqGetMut, IqInsert}
-use Rattle.refusals.specs.Refusals.{among, refusals}
-use Rattle.refusals.proofs.Ends.{Ends, refuses, answers, either, on-bytes, zero-number, numbered}
+use Rattle.gomxeli.proofs.Fields.{number-of}
+use Rattle.refusals.specs.Refusals.{among, Refusal, refusals}
+use Rattle.refusals.proofs.Ends.{Ends, refuses, answers, either, on-bytes, zero-number, isRefusal, numbered}
 
 -- ---- the numbers of answers
 
@@ -56,13 +58,13 @@ key-at-zero m None = zero-number _ _ _
 abbrev pub Lists : List ℕ → (lists.Lists → Result list.Answer lists.Lists) → Type 0
 Lists l g = (m : lists.Lists) → Ends l listAnswer (g m)
 
-no-list : {l : List ℕ} (n : ℕ) → among n l ≡ true → Ends {M = lists.Lists} l listAnswer (refuse (list-says.Refused n))
+no-list : {l : List ℕ} (n : ℕ) → isRefusal l n ≡ true → Ends {M = lists.Lists} l listAnswer (refuse (list-says.Refused n))
 no-list {l = l} n h = refuses (numbered l n h)
 
 pub on-lists : {l : List ℕ} {g : lists.Lists → Result list.Answer lists.Lists} (b : List ℕ) → Lists (1 ∷ l) g → Ends (1 ∷ l) listAnswer (mcq.on g b)
 on-lists {g} b h = on-bytes nodes.wholeB nodes.read (list-says.Refused 1) g b (no-list 1 refl) h
 
-in-size : {l : List ℕ} (t : Bool) {r : Result list.Answer lists.Lists} → among 13 l ≡ true → Ends l listAnswer r → Ends l listAnswer (mcq.inSize t r)
+in-size : {l : List ℕ} (t : Bool) {r : Result list.Answer lists.Lists} → isRefusal l 13 ≡ true → Ends l listAnswer r → Ends l listAnswer (mcq.inSize t r)
 in-size t h p = either t p (no-list 13 h)
 
 pub front : (c : ℕ) → Lists (refusals (McqFront c)) (mcq.front c)
@@ -106,7 +108,7 @@ open-lists n c e = either (listsAllowed c e) (either (eqb n (listsLength c e)) (
 abbrev pub Keyed : List ℕ → (Keys → Result key.Answer Keys) → Type 0
 Keyed l g = (m : Keys) → Ends l keyAnswer (g m)
 
-no-key : {l : List ℕ} (n : ℕ) → among n l ≡ true → Ends {M = Keys} l keyAnswer (refuse (key-says.Refused n))
+no-key : {l : List ℕ} (n : ℕ) → isRefusal l n ≡ true → Ends {M = Keys} l keyAnswer (refuse (key-says.Refused n))
 no-key {l = l} n h = refuses (numbered l n h)
 
 pub on-keys : {l : List ℕ} {g : Keys → Result key.Answer Keys} (b : List ℕ) → Keyed (1 ∷ l) g → Ends (1 ∷ l) keyAnswer (iq.on g b)
@@ -135,7 +137,14 @@ later true s h = refl
 later false s h = h
 
 not-taken : (k v : ℕ) → Ends {M = Keys} (refusals (IqInsert k v)) keyAnswer (refuse (key-says.NotTaken k v))
-not-taken k v = refuses (later (eqb (packed 14 0 k v) 1) (among (packed 14 0 k v) (packed 14 0 k v ∷ 16 ∷ [])) (rw (eq-eqb (packed 14 0 k v) (packed 14 0 k v) refl) refl))
+not-taken k v = refuses fourteen
+  where
+    fourteen : Refusal (refusals (IqInsert k v)) (packed 14 0 k v)
+    fourteen = record {
+      listed = later (eqb (packed 14 0 k v) 1) (among (packed 14 0 k v) (packed 14 0 k v ∷ 16 ∷ [])) (rw (eq-eqb (packed 14 0 k v) (packed 14 0 k v) refl) refl);
+      least = omega (arith, number-of 14 0 k v (omega arith));
+      most = omega (arith, number-of 14 0 k v (omega arith));
+    }
 
 insert-new : (k v : ℕ) (m : Keys) (free : List ℕ) → Ends (refusals (IqInsert k v)) keyAnswer (iq.insertNew k v m free)
 insert-new k v m [] = not-taken k v
@@ -169,7 +178,7 @@ pub back-key : Keyed (refusals IqBack) iq.back
 unfolding iq.back
 back-key m = answers (key-at-zero m (lists.last (lists.row (m .lists) 0)))
 
-queue-in : {l : List ℕ} → among 15 l ≡ true → (move : ℕ → lists.Lists → lists.Lists) (m : Keys) (o : Found) → Ends l keyAnswer (iq.queueIn move m o)
+queue-in : {l : List ℕ} → isRefusal l 15 ≡ true → (move : ℕ → lists.Lists → lists.Lists) (m : Keys) (o : Found) → Ends l keyAnswer (iq.queueIn move m o)
 queue-in h move m missing = no-key 15 h
 queue-in h move m (at i s) = answers (zero-number _ _ _)
 

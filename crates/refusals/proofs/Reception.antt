@@ -33,8 +33,8 @@ use Rattle.rx_req.specs.declared.Answer as request
 use Rattle.rx_req.specs.declared.Answer.the-variants as request-says
 use Rattle.gomxeli.specs.Answers.{number, regularAnswer, loopBackAnswer, requestAnswer}
 use Rattle.gomxeli.specs.Calls.{RegOpen, RegUnregister, RegHubPushStart, RegRegister, RegPollPop, RegHubPushNext, LbOpen, LbHubPushNext, LbUnregister, LbHubPushStart, LbRegister, ReqOpen, ReqUnregister, ReqRegister, ReqPollPush}
-use Rattle.refusals.specs.Refusals.{among, refusals}
-use Rattle.refusals.proofs.Ends.{Ends, refuses, answers, either, on-bytes, zero-number, numbered}
+use Rattle.refusals.specs.Refusals.{refusals}
+use Rattle.refusals.proofs.Ends.{Ends, refuses, answers, either, on-bytes, zero-number, isRefusal, numbered}
 
 pushed-zero : (e : Option ℕ) → number (requestAnswer (req.pushed e)) ≡ 0
 pushed-zero none = zero-number _ _ _
@@ -45,7 +45,7 @@ pushed-zero (some e) = zero-number _ _ _
 abbrev pub Regular : List ℕ → (registry.Registry → Result regular.Answer registry.Registry) → Type 0
 Regular l g = (m : registry.Registry) → Ends l regularAnswer (g m)
 
-no-regular : {l : List ℕ} (n : ℕ) → among n l ≡ true → Ends {M = registry.Registry} l regularAnswer (refuse (regular-says.Refused n))
+no-regular : {l : List ℕ} (n : ℕ) → isRefusal l n ≡ true → Ends {M = registry.Registry} l regularAnswer (refuse (regular-says.Refused n))
 no-regular {l = l} n h = refuses (numbered l n h)
 
 pub on-regular : {l : List ℕ} {g : registry.Registry → Result regular.Answer registry.Registry} (b : List ℕ) → Regular (1 ∷ l) g → Ends (1 ∷ l) regularAnswer (regCalls.on g b)
@@ -109,7 +109,7 @@ reg-open n slots = either (eqb n regularLength) (either (ltb 65535 slots) (no-re
 abbrev pub LoopBack : List ℕ → (loopBack.Registry → Result loop-back.Answer loopBack.Registry) → Type 0
 LoopBack l g = (m : loopBack.Registry) → Ends l loopBackAnswer (g m)
 
-no-loop-back : {l : List ℕ} (n : ℕ) → among n l ≡ true → Ends {M = loopBack.Registry} l loopBackAnswer (refuse (loop-back-says.Refused n))
+no-loop-back : {l : List ℕ} (n : ℕ) → isRefusal l n ≡ true → Ends {M = loopBack.Registry} l loopBackAnswer (refuse (loop-back-says.Refused n))
 no-loop-back {l = l} n h = refuses (numbered l n h)
 
 pub on-loop-back : {l : List ℕ} {g : loopBack.Registry → Result loop-back.Answer loopBack.Registry} (b : List ℕ) → LoopBack (1 ∷ l) g → Ends (1 ∷ l) loopBackAnswer (lbCalls.on g b)
@@ -148,7 +148,7 @@ lb-open n = either (eqb n loopBackLength) (answers (zero-number _ _ _)) (no-loop
 abbrev pub Requests : List ℕ → (requests.Registry → Result request.Answer requests.Registry) → Type 0
 Requests l g = (m : requests.Registry) → Ends l requestAnswer (g m)
 
-no-request : {l : List ℕ} (n : ℕ) → among n l ≡ true → Ends {M = requests.Registry} l requestAnswer (refuse (request-says.Refused n))
+no-request : {l : List ℕ} (n : ℕ) → isRefusal l n ≡ true → Ends {M = requests.Registry} l requestAnswer (refuse (request-says.Refused n))
 no-request {l = l} n h = refuses (numbered l n h)
 
 pub on-requests : {l : List ℕ} {g : requests.Registry → Result request.Answer requests.Registry} (b : List ℕ) → Requests (1 ∷ l) g → Ends (1 ∷ l) requestAnswer (reqCalls.on g b)

@@ -33,15 +33,15 @@ use Rattle.format.specs.declared.MaybeEot.the-variants as eot-says
 use Rattle.gomxeli.specs.Answers.{packed, number, imageAnswer, priorityAnswer, subjectAnswer, serviceAnswer, nodeAnswer, transferAnswer, eotAnswer, nextAnswer, withPriority}
 use Rattle.gomxeli.proofs.Fields.{refusal-of}
 use Rattle.refusals.specs.Stateless.{ImgOpen, ImgAddSubject, ImgRemoveSubjectRange, ImgHasSubject, LeafCall, leaf, SubjectIdNew, SubjectIdFromU16Truncating, ServiceIdNew, ServiceIdFromU16Truncating, NodeIdNew, NodeIdFromU8Truncating, TransferIdNew, TransferIdFromU8Truncating, TransferIdNext, PriorityTryFromU8, PriorityFromU8Truncating, PriorityNext, PriorityPrev, PrioritySetNewEq, PrioritySetNewGe, PrioritySetNewLe, PrioritySetNewGt, PrioritySetNewLt, PrioritySetFirst, PrioritySetLast, PrioritySetIsEmpty, PrioritySetComplement, PrioritySetNot, PrioritySetIterNext, TailByteSot, TailByteEot, TailByteToggle, TailByteTransferId, PrioritySetContains, PrioritySetInsert, PrioritySetRemove, PrioritySetBitand, PrioritySetBitor, TailByteNew, IsEotFrame}
-use Rattle.refusals.specs.Refusals.{among, imageRefusals}
-use Rattle.refusals.proofs.Ends.{Ends, refuses, answers, either, zero-number, numbered}
+use Rattle.refusals.specs.Refusals.{imageRefusals}
+use Rattle.refusals.proofs.Ends.{Ends, refuses, answers, either, zero-number, isRefusal, numbered}
 
 -- ---- the filter image
 
-no-image : {l : List ℕ} (n : ℕ) → among n l ≡ true → Ends {M = Subjects} l imageAnswer (refuse (image-says.Refused n))
+no-image : {l : List ℕ} (n : ℕ) → isRefusal l n ≡ true → Ends {M = Subjects} l imageAnswer (refuse (image-says.Refused n))
 no-image {l = l} n h = refuses (numbered l n h)
 
-on-image : {l : List ℕ} (n : ℕ) {r : Result image.Answer Subjects} → among 4 l ≡ true → Ends l imageAnswer r → Ends l imageAnswer (onImage n r)
+on-image : {l : List ℕ} (n : ℕ) {r : Result image.Answer Subjects} → isRefusal l 4 ≡ true → Ends l imageAnswer r → Ends l imageAnswer (onImage n r)
 on-image n h p = either (eqb n imageLength) p (no-image 4 h)
 
 pub opens : (b : List ℕ) → Ends (imageRefusals ImgOpen) imageAnswer (opening b)

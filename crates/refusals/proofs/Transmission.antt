@@ -21,10 +21,10 @@ use Rattle.tx_msg.specs.Steps as txm
 use Rattle.tx_msg.specs.Calls as txmCalls
 use Rattle.gomxeli.specs.Answers.{transmitAnswer}
 use Rattle.gomxeli.specs.Calls.{TxmOpen, TxrOpen, TxmUnregister, TxrUnregister, TxmRegister, TxrRegister, TxmUpdate, TxrUpdate, TxmPick, TxrPick, TxmSettle, TxrSettle}
-use Rattle.refusals.specs.Refusals.{among, refusals}
-use Rattle.refusals.proofs.Ends.{Ends, refuses, answers, either, on-bytes, zero-number, numbered}
+use Rattle.refusals.specs.Refusals.{refusals}
+use Rattle.refusals.proofs.Ends.{Ends, refuses, answers, either, on-bytes, zero-number, isRefusal, numbered}
 
-no-transmit : {M : Type 0} {l : List ℕ} (n : ℕ) → among n l ≡ true → Ends {M = M} l transmitAnswer (refuse (transmit-says.Refused n))
+no-transmit : {M : Type 0} {l : List ℕ} (n : ℕ) → isRefusal l n ≡ true → Ends {M = M} l transmitAnswer (refuse (transmit-says.Refused n))
 no-transmit {l = l} n h = refuses (numbered l n h)
 
 -- ---- responses, whose calls are the transmit queue's

@@ -1,5 +1,5 @@
 -- Demand 1: every exported call answers a result or one of its refusals, and a refusal leaves every lent byte.
-use Prim.Native.Nat.{ℕ}
+use Prim.Native.Nat.{ℕ, _≤_}
 use mathlib.Core.Path.{_≡_}
 use mathlib.Core.Bool.{Bool, true, false, _||_}
 use mathlib.Core.Logic.{_⊎_}
@@ -13,10 +13,16 @@ abbrev pub among : ℕ → List ℕ → Bool
 among a [] = false
 among a (x ∷ l) = eqb a x || among a l
 
+-- an answer that refuses: one of l, with a number of document 01's table; 17 is the program's alone
+pub record Refusal (l : List ℕ) (a : ℕ) : Type 0 where
+  pub listed : among a l ≡ true
+  pub least : 1 ≤ number a
+  pub most : number a ≤ 16
+
 -- what a call on the bytes b may come to: a result, whose number is 0, or one of the refusals l, which leaves the bytes
 pub data Answered (l b : List ℕ) : Outcome → Type 0 where
   result : (o : Outcome) → number (o .answer) ≡ 0 → Answered l b o
-  refused : (a : ℕ) → among a l ≡ true → Answered l b (record { answer = a; bytes = b })
+  refused : (a : ℕ) → Refusal l a → Answered l b (record { answer = a; bytes = b })
 
 -- the answers that refuse a call, in document 01's order, at opening a queue's sizes first: each is its number alone, but for 14, which hands
 -- back the key and the value

@@ -12,7 +12,7 @@ use Rattle.multi_cycle_list.specs.Lists as lists
 use Rattle.multi_cycle_list.specs.Lists.{row, first, last, without-entry, movedFront, movedBack}
 use Rattle.multi_cycle_list.specs.declared.inner.MaybeEntry.{MaybeEntry}
 use Rattle.multi_cycle_list.specs.declared.inner.MaybeEntry.the-variants.{Some, None}
-use Rattle.index_entries.specs.Keys.{Slot, free, holds, spent, Keys, slot, Found, missing, at, found, FairKeys, withSlot, withLists, changed, fresh}
+use Rattle.index_entries.specs.Keys.{Slot, free, holds, spent, Keys, slot, Found, missing, at, found, ValidKeys, withSlot, withLists, changed, fresh}
 use Rattle.index_entries.specs.Bytes.{wholeB, read}
 use Rattle.index_entries.specs.Laid.{laid}
 use Rattle.index_queue.specs.declared.Answer.{Answer}
@@ -142,4 +142,4 @@ Sized m n = n ≡ keysLength (m .kMax) (length (m .slots))
 pub record KeysMean : Type 0 where
   -- opened bytes are whole
   pub opened : (n k e : ℕ) (a : Answer) (m : Keys) → opening n k e ≡ done a m → wholeB (laid m (replicate n 255)) ≡ true
-  pub meaning : Means wholeB read laid (Refused 1) FairKeys Sized step
+  pub meaning : Means wholeB read laid (Refused 1) ValidKeys Sized step

@@ -18,12 +18,12 @@ use Rattle.regular.specs.Bytes.{read}
 use Rattle.regular.specs.Steps.{PollPop, pollPop}
 use Rattle.regular.specs.declared.Answer.{Answer}
 use Rattle.regular.specs.declared.Answer.the-variants.{AddSubject, RemoveSubjectRange, Nothing}
-use Rattle.regular_fair.specs.Inner as moves
-use Rattle.regular_fair.specs.Moves.{Registered, activated}
-use Rattle.regular_fair.specs.Inner.{isUpdate, isAddOrNothing, into}
-use Rattle.regular_fair.proofs.Poll as poll
-use Rattle.regular_fair.proofs.Poll.{due}
-use Rattle.regular_fair.proofs.Demand as demand
+use Rattle.regular_valid.specs.Inner as moves
+use Rattle.regular_valid.specs.Moves.{Registered, activated}
+use Rattle.regular_valid.specs.Inner.{isUpdate, isAddOrNothing, into}
+use Rattle.regular_valid.proofs.Poll as poll
+use Rattle.regular_valid.proofs.Poll.{due}
+use Rattle.regular_valid.proofs.Demand as demand
 use Rattle.filter_image.specs.Image as image
 use Rattle.filter_image.proofs.Laws.{length-image, holds-image, holds-past}
 use Rattle.gomxeli.specs.Answers.{regularAnswer, packed, accepted}

@@ -12,7 +12,7 @@ use Rattle.regular.specs.Registry.{Registry}
 use Rattle.regular.specs.Steps.{Gaps, gaps, register, unregister, unregisterActive, hubPushStart, pushNext, hubPushNext}
 use Rattle.regular.specs.declared.Answer.{Answer}
 use Rattle.regular.specs.declared.Answer.the-variants.{Refused, Accepted}
-use Rattle.regular_fair.specs.Inner.{isAccepted, into}
+use Rattle.regular_valid.specs.Inner.{isAccepted, into}
 use Rattle.gomxeli.specs.Answers.{regularAnswer, flag, accepted}
 use Rattle.gomxeli.proofs.Fields.{accepted-of, refused-of}
 

@@ -14,11 +14,11 @@ use Rattle.regular.specs.Bytes.{read}
 use Rattle.regular.specs.Steps.{Call, step, Register, Unregister, HubPushStart, HubPushNext}
 use Rattle.regular.specs.Calls.{on, bytes, openedBytes, opening}
 use Rattle.regular.specs.declared.Answer.{Answer}
-use Rattle.regular_fair.specs.Inner as moves
-use Rattle.regular_fair.specs.Moves.{Registered, joined, taken}
-use Rattle.regular_fair.specs.Inner.{isAccepted}
-use Rattle.regular_fair.proofs.Poll.{due}
-use Rattle.regular_fair.proofs.Demand as demand
+use Rattle.regular_valid.specs.Inner as moves
+use Rattle.regular_valid.specs.Moves.{Registered, joined, taken}
+use Rattle.regular_valid.specs.Inner.{isAccepted}
+use Rattle.regular_valid.proofs.Poll.{due}
+use Rattle.regular_valid.proofs.Demand as demand
 use Rattle.filter_image.specs.Image as image
 use Rattle.gomxeli.specs.Answers.{regularAnswer, accepted}
 use Rattle.gomxeli.specs.Calls as calls

@@ -7,7 +7,7 @@ use lib.Dec.{eqb, leb}
 use lib.ListN.{length}
 use Rattle.state.specs.Lengths.{regularLength, imageLength}
 use Rattle.entry_tree.specs.Pairs.{pair, hasSubject}
-use Rattle.regular_fair.specs.Moves.{Registered, lists, joined, taken, activated}
+use Rattle.regular_valid.specs.Moves.{Registered, lists, joined, taken, activated}
 use Rattle.filter_image.specs.Image as image
 use Rattle.gomxeli.specs.Answers.{what, first, second, accepted}
 use Rattle.gomxeli.specs.Calls.{Call, does, McqFront, McqBack, McqIsEmpty, McqIsFront, McqIsBack, McqRemove, McqOpen, McqMoveFront, McqMoveBack, IqFront, IqBack, IqContains, IqGet, IqRemove, IqEnqueueFront, IqEnqueueBack, IqDequeue, IqOpen, IqGetMut, IqInsert, RegOpen, RegUnregister, RegHubPushStart, RegRegister, RegPollPop, RegHubPushNext, LbOpen, LbHubPushNext, LbUnregister, LbHubPushStart, LbRegister, ReqOpen, ReqUnregister, ReqRegister, ReqPollPush, TxmOpen, TxrOpen, TxmUnregister, TxrUnregister, TxmRegister, TxrRegister, TxmUpdate, TxrUpdate, TxmPick, TxrPick, TxmSettle, TxrSettle}

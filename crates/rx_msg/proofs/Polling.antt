@@ -20,17 +20,17 @@ use Rattle.regular.specs.Registry.{Registry}
 use Rattle.regular.specs.Bytes.{inactivePart, queuePart, wholeB, read, laid}
 use Rattle.regular.specs.Steps.{Step, stepBy, innerStep, onStep, steps, pollPop}
 use Rattle.regular.specs.Calls.{on}
-use Rattle.regular_fair.specs.Means.{Fair}
+use Rattle.regular_valid.specs.Means.{Valid}
 use Rattle.regular.specs.declared.Answer.{Answer}
 use Rattle.regular.specs.declared.Answer.the-variants.{AddSubject, RemoveSubjectRange, Nothing}
 use Rattle.regular.specs.declared.Popped as popped
 use Rattle.regular.specs.declared.Popped.the-variants as pops
-use Rattle.regular_fair.proofs.Facts.{at-most}
-use Rattle.regular_fair.proofs.Fair.{Whole, whole-fair, inner-whole}
-use Rattle.regular_fair.proofs.Reading.{parts, read-facts, read-whole}
-use Rattle.regular_fair.proofs.Poll.{again-shorter, step-next}
-use Rattle.regular_fair.proofs.Round.{queue-read, laid-read, laid-again}
-use Rattle.regular_fair.proofs.Mean.{read-laid, laid-whole, laid-bytes}
+use Rattle.regular_valid.proofs.Facts.{at-most}
+use Rattle.regular_valid.proofs.Valid.{Whole, whole-valid, inner-whole}
+use Rattle.regular_valid.proofs.Reading.{parts, read-facts, read-whole}
+use Rattle.regular_valid.proofs.Poll.{again-shorter, step-next}
+use Rattle.regular_valid.proofs.Round.{queue-read, laid-read, laid-again}
+use Rattle.regular_valid.proofs.Mean.{read-laid, laid-whole, laid-bytes}
 use Rattle.rx_msg.proofs.Calls.{changes}
 
 -- ---- the queues' fronts
@@ -116,14 +116,14 @@ module _ (b s : List ℕ) (p : Polling b s) (t : List ℕ) (q : t ≡ laid (inne
   next : Whole n
   next = inner-whole m (read-whole s (p .bytes) (p .whole))
 
-  fair : Fair n
-  fair = whole-fair n next
+  valid : Valid n
+  valid = whole-valid n next
 
   long : length s ≡ 1036
   long = parts s (p .whole) .bytes
 
   read-next : read t ≡ n
-  read-next = ap read q ∙ read-laid n s (p .bytes) fair long
+  read-next = ap read q ∙ read-laid n s (p .bytes) valid long
 
   over-next : t ≡ laid n b
   over-next =
@@ -136,8 +136,8 @@ module _ (b s : List ℕ) (p : Polling b s) (t : List ℕ) (q : t ≡ laid (inne
     pub goes-on : r ≡ pops.CallAgain → Polling b t
     goes-on k = record {
       begun = p .begun;
-      bytes = subst Bytes (sym q) (laid-bytes n s (p .bytes) fair long);
-      whole = ap wholeB q ∙ laid-whole n s (p .bytes) fair long;
+      bytes = subst Bytes (sym q) (laid-bytes n s (p .bytes) valid long);
+      whole = ap wholeB q ∙ laid-whole n s (p .bytes) valid long;
       over = over-next ∙ ap (λ (x : Registry). laid x b) (sym read-next);
       rest = p .rest ∙ poll-again m (sym e ∙ k) ∙ ap pollPop (sym read-next);
       few = omega (arith, ap (λ (x : Registry). length (x .inactive)) read-next, grows m .inactive, p .few);

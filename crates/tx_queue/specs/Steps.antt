@@ -23,15 +23,15 @@ isOpen (some p) = true
 -- ---- an entry's place
 
 -- the entry e, which stands in the queue `from`, belongs in the queue `to`: it goes to the back only if that is another
-abbrev pub seated : ℕ → ℕ → ℕ → List (List ℕ) → List (List ℕ)
-seated from to e qs = cond (ltb to 16) (cond (eqb from to) qs (pushedBack to e (removed e qs))) (removed e qs)
+abbrev pub requeued : ℕ → ℕ → ℕ → List (List ℕ) → List (List ℕ)
+requeued from to e qs = cond (ltb to 16) (cond (eqb from to) qs (pushedBack to e (removed e qs))) (removed e qs)
 
 abbrev pub wakes : ℕ → ℕ → ℕ → Bool
 wakes from to mask = ltb to 16 && (not (eqb from to) && has mask (to / 2))
 
 -- the entry e, which stands in the queue `from`, gets the sets o; any pick is over
 abbrev pub becomes : ℕ → ℕ → Option Sets → TxQueue → TxQueue
-becomes e from o m = record { entries = set (m .entries) e o; queues = seated from (place o) e (m .queues); mask = m .mask; pick = none }
+becomes e from o m = record { entries = set (m .entries) e o; queues = requeued from (place o) e (m .queues); mask = m .mask; pick = none }
 
 abbrev pub withMask : ℕ → TxQueue → TxQueue
 withMask mask m = record { entries = m .entries; queues = m .queues; mask = mask; pick = m .pick }

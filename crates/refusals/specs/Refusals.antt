@@ -9,6 +9,7 @@ use Rattle.gomxeli.specs.Answers.{packed, number}
 use Rattle.gomxeli.specs.Calls.{Call, Outcome, does, McqFront, McqBack, McqIsEmpty, McqIsFront, McqIsBack, McqRemove, McqOpen, McqMoveFront, McqMoveBack, IqFront, IqBack, IqContains, IqGet, IqRemove, IqEnqueueFront, IqEnqueueBack, IqDequeue, IqOpen, IqGetMut, IqInsert, RegOpen, RegUnregister, RegHubPushStart, RegRegister, RegPollPop, RegHubPushNext, LbOpen, LbHubPushNext, LbUnregister, LbHubPushStart, LbRegister, ReqOpen, ReqUnregister, ReqRegister, ReqPollPush, TxmOpen, TxrOpen, TxmUnregister, TxrUnregister, TxmRegister, TxrRegister, TxmUpdate, TxrUpdate, TxmPick, TxrPick, TxmSettle, TxrSettle}
 use Rattle.refusals.specs.Stateless.{ImageCall, ImgOpen, ImgAddSubject, ImgRemoveSubjectRange, ImgHasSubject, image, LeafCall, leaf}
 
+-- a is one of l
 abbrev pub among : ℕ → List ℕ → Bool
 among a [] = false
 among a (x ∷ l) = eqb a x || among a l

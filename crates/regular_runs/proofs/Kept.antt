@@ -26,9 +26,9 @@ use Rattle.regular_valid.proofs.Mean.{means, fresh-valid}
 use Rattle.filter_image.specs.Image as image
 use Rattle.filter_image.proofs.Laws.{length-image, holds-none}
 use Rattle.filter_image.proofs.Ends.{open-done}
-use Rattle.gomxeli.specs.Answers.{regularAnswer}
-use Rattle.regular_runs.specs.Runs.{Now, begin, accepted}
-use Rattle.regular_runs.proofs.Fields.{accepted-of}
+use Rattle.gomxeli.specs.Answers.{regularAnswer, accepted}
+use Rattle.gomxeli.proofs.Fields.{accepted-of}
+use Rattle.regular_runs.specs.Runs.{Now, begin}
 
 pub record Good (w : Now) : Type 0 where
   pub whole : wholeB (w .state) ≡ true
@@ -105,7 +105,7 @@ pub refused-opening : (b : List ℕ) (n : ℕ) → accepted (regularAnswer (answ
 unfolding opening
 refused-opening b n =
     by-cond K (eqb (length b) regularLength)
-    (λ l. by-cond K (ltb 65535 n) (λ t h. refl) (λ t h. not-both (sym (accepted-of 0 0 0 (omega arith) (omega arith)) ∙ h)))
+    (λ l. by-cond K (ltb 65535 n) (λ t h. refl) (λ t h. not-both (sym (accepted-of 0 0 0) ∙ h)))
     (λ l h. refl)
   where
     K : Result Answer Registry → Type 0

@@ -10,6 +10,7 @@ use multi_cycle_list::inner::inner_front;
 use regular::Answer;
 use regular::Popped;
 use regular::whole;
+use regular_change::activation::activate_known;
 use regular_change::change::join;
 use regular_change::change::leave_active;
 use regular_change::change::leave_inactive;
@@ -177,7 +178,10 @@ pub fn poll_pop(s: &mut [u8]) -> Answer
         match poll_pop_filter_update(s) {
             Popped::AddSubject(x) => break Answer::AddSubject(x),
             Popped::RemoveSubjectRange(a, b) => break Answer::RemoveSubjectRange(a, b),
-            Popped::CallAgain => continue,
+            Popped::CallAgain => {
+                activate_known(s);
+                continue;
+            }
             Popped::Nothing => break Answer::Nothing,
         }
     };

@@ -185,7 +185,7 @@ module _ (b : List ℕ) (y : Bytes b) (h : wholeB b ≡ true) where
         taking-more p qp front' qf =
             let is : p ≡ listsLaid.laid (queueOf m') = qp ∙ ap (λ (z : Lists). listsLaid.laid z) queue-is-then in
             let j1 = put-queue s (activePart b) I (listsLaid.laid (queueOf m)) (tailOf b) (joined b s (activePart b) I (listsLaid.laid (queueOf m)) (k .parts)) p
-                (ap length is ∙ queues.out-length 2 128 (listsLaid.arcs 2 0 (m' .cleanUp ∷ (m' .activation ∷ [])))) in
+            (ap length is ∙ queues.out-length 2 128 (listsLaid.arcs 2 0 (m' .cleanUp ∷ (m' .activation ∷ [])))) in
             record {
               meaning = m';
               run = run-then;

@@ -152,6 +152,32 @@ static void waiting_on_each(struct registry *registry, unsigned count)
     }
 }
 
+/*
+ * All but the first `active` wait in the queue's order. Equals stand the other way round
+ * in the tree, as no calls leave them; the queue's first waits on the last subject.
+ */
+static void wait_in_reverse(struct registry *registry, unsigned active, unsigned count)
+{
+    for (unsigned i = active; i < count; i++)
+        list_push_back(&registry->queues.list[ACTIVATION_CLASS], nth_entry(i));
+    for (unsigned i = count; i-- > active;)
+        tree_insert(&registry->inactive, nth_entry(i),
+                    nth_subject((count - 1 - i) * active / (count - active), true));
+}
+
+static void reverse_on_active(struct registry *registry, unsigned count)
+{
+    activate(registry, 0, true, false);
+    wait_in_reverse(registry, 1, count);
+}
+
+static void reverse_on_eighth(struct registry *registry, unsigned count)
+{
+    for (unsigned i = 0; i < count / 8; i++)
+        activate(registry, i, true, false);
+    wait_in_reverse(registry, count / 8, count);
+}
+
 static const struct {
     const char *name;
     void (*build)(struct registry *registry, unsigned count);
@@ -160,6 +186,8 @@ static const struct {
     {"all waiting", all_waiting},     {"all marked", all_marked},
     {"half and half", half_and_half}, {"waiting on an active subject", waiting_on_active},
     {"waiting on each of half", waiting_on_each},
+    {"reverse on an active subject", reverse_on_active},
+    {"reverse on an eighth", reverse_on_eighth},
 };
 
 enum { SHAPES = sizeof shapes / sizeof shapes[0] };

@@ -2,9 +2,10 @@
 use Prim.Native.Nat.{ℕ, zero, suc, _+_, _-_, _<_, _≤_}
 use mathlib.Core.Path.{_≡_, refl, sym, ap, _∙_, subst}
 use mathlib.Core.List.{List}
-use mathlib.Core.Bool.{true, false}
+use mathlib.Core.Bool.{Bool, true, false, cond}
 use native.Mathlib.Omega.{arith}
-use native.Mathlib.Decide.{ℕ-discrete}
+use native.Mathlib.Decide.{ℕ-discrete, decLt}
+use lib.Dec.{eqb}
 use lib.ListN.{length, getD, set, replicate, length-set, length-replicate, getD-replicate}
 use lib.Seq.{getD-set-same, getD-set-other}
 use borrow.Author.Tests.{eq-eqb}
@@ -13,7 +14,7 @@ use Rattle.entry_tree.specs.Pairs.{Pair, position, isEntry, onSubject, hasSubje
 use Rattle.entry_tree.specs.Places as tree
 use Rattle.entry_tree.specs.Places.{size, entryAt, subjectAt}
 use Rattle.entry_tree.proofs.Reading.{read-length, read-at, read-place-subject}
-use Rattle.entry_tree.proofs.Count.{true-any}
+use Rattle.entry_tree.proofs.Count.{same, diff, compareEq, true-any}
 use Rattle.entry_tree.proofs.Finding.{count-at, entry-place}
 use Rattle.regular.specs.Bytes.{activePart, inactivePart, wholeB, read}
 use Rattle.regular_change.specs.Inner.{StartsAt, Starts}
@@ -28,23 +29,40 @@ subject-there t j x h q =
 
 -- ---- the loop over the inactive entries
 
-pub record Noting (s start : List ℕ) (first i : ℕ) : Type 0 where
+pub record Noting (s start : List ℕ) (first last i : ℕ) : Type 0 where
   pub starts : Starts s start
   pub behind : first ≤ i
+  pub on : 0 < i → last ≡ subjectAt (inactivePart s) first
 
-pub noting-none : (s : List ℕ) → Noting s (replicate 256 255) 0 0
+pub noting-none : (s : List ℕ) → Noting s (replicate 256 255) 0 0 0
 noting-none s = record {
   starts = record {
     long = length-replicate {A = ℕ} 256 255;
     at = λ e b h. absurd (omega (arith, getD-replicate {A = ℕ} 256 e 255 0 b));
   };
   behind = omega arith;
+  on = λ h. absurd (omega arith);
 }
 
-pub noting-more : (s start : List ℕ) (first i : ℕ) → wholeB s ≡ true → Noting s start first i → i < size (inactivePart s) → (g : ℕ) → g ≤ i → subjectAt (inactivePart s) g ≡ subjectAt (inactivePart s) i
-    → (x e v : ℕ) → x ≡ subjectAt (inactivePart s) i → e ≡ entryAt (inactivePart s) i → e < 256 → (v < 128 → (v ≡ g) × (hasSubject x (tree.read (activePart s)) ≡ true)) → Noting s (set start e v) g (i + 1)
-noting-more s start first i w h b g bg qg x e v qx qe small f =
+-- the place where the subject of the place i begins
+pub group-is : (s start : List ℕ) (first last i : ℕ) → Noting s start first last i → (x : ℕ) → x ≡ subjectAt (inactivePart s) i → (g : ℕ) → g ≡ cond (eqb last x) first i
+    → (g ≤ i) × (subjectAt (inactivePart s) g ≡ subjectAt (inactivePart s) i)
+group-is s start first last i h x qx g qg = elim (compareEq last x) [
+  | same z b ↦
+      (let f : g ≡ first = qg ∙ ap (λ (t : Bool). cond t first i) b in
+      (omega (arith, h .behind), elim (decLt 0 i) [
+        | yes p ↦ ap (subjectAt (inactivePart s)) f ∙ sym (h .on p) ∙ z ∙ qx
+        | no p ↦ (let o : g ≡ i = omega (arith, h .behind) in ap (subjectAt (inactivePart s)) o)
+      ]))
+  | diff z b ↦ (let f : g ≡ i = qg ∙ ap (λ (t : Bool). cond t first i) b in (omega arith, ap (subjectAt (inactivePart s)) f))
+]
+
+pub noting-more : (s start : List ℕ) (first last i : ℕ) → wholeB s ≡ true → Noting s start first last i → i < size (inactivePart s) → (x : ℕ) → x ≡ subjectAt (inactivePart s) i → (g : ℕ) → g ≡ cond (eqb last x) first i
+    → (e v : ℕ) → e ≡ entryAt (inactivePart s) i → e < 256 → (v < 128 → (v ≡ g) × (hasSubject x (tree.read (activePart s)) ≡ true)) → Noting s (set start e v) g x (i + 1)
+noting-more s start first last i w h b x qx g cg e v qe small f =
     let t = inactivePart s in
+    let bg = group-is s start first last i h x qx g cg .0 in
+    let qg = group-is s start first last i h x qx g cg .1 in
     record {
       starts = record {
         long = length-set start e v ∙ h .starts .long;
@@ -67,4 +85,5 @@ noting-more s start first i w h b g bg qg x e v qx qe small f =
         ];
       };
       behind = omega arith;
+      on = λ p. qx ∙ sym qg;
     }

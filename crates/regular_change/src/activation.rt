@@ -11,9 +11,10 @@ use multi_cycle_list::inner::inner_remove;
 use multi_cycle_list::inner::inner_second;
 use state::copy;
 ghost use mathlib.Core.Path.{_≡_};
-ghost use mathlib.Core.Bool.{true, false};
+ghost use mathlib.Core.Bool.{true, false, cond};
 ghost use mathlib.Core.List.{[]};
 ghost use Prim.Native.Nat.{_+_, _<_, _≤_};
+ghost use lib.Dec.{eqb};
 ghost use lib.ListN.{length, getD, replicate};
 ghost use Rattle.entry_tree.specs.Pairs.{hasSubject, inOrder};
 ghost use Rattle.entry_tree.specs.Places as tree;
@@ -24,12 +25,11 @@ ghost use Rattle.regular_change.specs.Inner.{Activated, Starts, Free, Co
 
 // ---- where the entries of a subject begin
 
-// `first`, if the place is on the subject of the place i, else i.
-fn group_start(t: &[u8], first: usize, i: usize) -> usize
-    requires { ⌜ (length (now t) ≡ 385) × ((first ≤ i) × (i < 128)) ⌝ }
-    ensures { λ r. ⌜ (r ≤ i) × (subjectAt (now (t .entry)) r ≡ subjectAt (now (t .entry)) i) ⌝ }
+// `first`, if the subject x is the last one met, else i.
+fn group_start(first: usize, i: usize, last: u16, x: u16) -> usize
+    ensures { λ r. ⌜ r ≡ cond (eqb last x) first i ⌝ }
 {
-    if subject_at(t, first) == subject_at(t, i) {
+    if last == x {
         return first;
     }
     i
@@ -51,15 +51,15 @@ fn skip_below(t: &[u8], from: usize, x: u16) -> usize
     n
 }
 
-// `first`, if the place j is on the subject x, else 255.
-fn start_if_on(t: &[u8], j: usize, x: u16, first: usize) -> u8
+// `first`, if the place `at` is on the subject x, else 255.
+fn start_if_on(t: &[u8], at: usize, x: u16, first: usize) -> u8
     requires { ⌜ ((length (now t) ≡ 385) × (size (now t) ≤ 128)) × (first < 128) ⌝ }
     ensures { λ r. ⌜ (r < 128 → (r ≡ first) × (hasSubject x (tree.read (now (t .entry))) ≡ true)) ⌝ }
 {
-    if len(t) <= j {
+    if len(t) <= at {
         return 255;
     }
-    if subject_at(t, j) != x {
+    if subject_at(t, at) != x {
         return 255;
     }
     first as u8
@@ -72,15 +72,17 @@ fn note_starts(s: &[u8], start: &mut [u8])
 {
     let n = len(&s[385..770]);
     let mut first = 0;
+    let mut last: u16 = 0;
     let mut i = 0;
     let mut j = 0;
     while i < n {
-        first = group_start(&s[385..770], first, i);
         let x = subject_at(&s[385..770], i);
+        first = group_start(first, i, last, x);
         j = skip_below(&s[0..385], j, x);
         let e = entry_at(&s[385..770], i);
         let v = start_if_on(&s[0..385], j, x, first);
         start[e as usize] = v;
+        last = x;
         i += 1;
     }
 }

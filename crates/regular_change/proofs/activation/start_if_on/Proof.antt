@@ -21,7 +21,7 @@ cast-result : tie.Need-cast-result
 cast-result c = search needs
 
 returns-3 : tie.Need-returns-3
-returns-3 c = λ h. (refl, subject-there (c .before .before .before .before .before .args .t .now) (c .before .before .before .before .before .args .j) (c .before .before .before .before .before .args .x) (omega (arith, c .before .before .before .len .ensures .0)) (sym (c .before .subject-at .ensures) ∙ c .if2 .left))
+returns-3 c = λ h. (refl, subject-there (c .before .before .before .before .before .args .t .now) (c .before .before .before .before .before .args .at) (c .before .before .before .before .before .args .x) (omega (arith, c .before .before .before .len .ensures .0)) (sym (c .before .subject-at .ensures) ∙ c .if2 .left))
 
 pub start-if-on-spec : {M : Type 1} → statement M
 start-if-on-spec =

@@ -11,10 +11,10 @@ use Rattle.rx_msg.proofs.regular_inner.poll_pop.Statement.{statement}
 use Rattle.rx_msg.proofs.regular_inner.poll_pop.Tie as tie
 
 abbrev Inv-loop : tie.InvT-loop
-Inv-loop s₀ s = Polling s₀ s
+Inv-loop s₀ again₀ s again = Polling s₀ s
 
 abbrev μ-loop : tie.MeasureT-loop
-μ-loop s₀ s = length (read s .activation)
+μ-loop s₀ again₀ s again = length (read s .activation)
 
 whole-requires : tie.Need-whole-requires Inv-loop μ-loop
 whole-requires c κs = search needs
@@ -40,14 +40,23 @@ enum-known-a c = search needs
 enum-told : tie.Need-enum-told Inv-loop μ-loop
 enum-told c = search needs
 
-activate-known-requires : tie.Need-activate-known-requires Inv-loop μ-loop
-activate-known-requires c κs = (goes-on (c .before .before .before .before .before .before .before .before .before .before .before .before .args .s .now) (c .before .before .before .before .before .before .before .loop .s) (c .before .before .before .before .before .before .before .loop .inv) (c .before .before .before .before .before .poll-pop-filter-update .last .0) (c .before .before .before .before .before .poll-pop-filter-update .ensures .1) (c .before .before .before .before .before .poll-pop-filter-update .result) (c .before .before .before .before .before .poll-pop-filter-update .ensures .0) (c .before .enum-told .given .1) .whole, idle-then (c .before .before .before .before .before .before .before .before .before .before .before .before .args .s .now) (c .before .before .before .before .before .before .before .loop .s) (c .before .before .before .before .before .before .before .loop .inv) (c .before .before .before .before .before .poll-pop-filter-update .last .0) (c .before .before .before .before .before .poll-pop-filter-update .ensures .1) (c .before .before .before .before .before .poll-pop-filter-update .result) (c .before .before .before .before .before .poll-pop-filter-update .ensures .0) (c .before .enum-told .given .1))
+add-again : tie.Need-add-again Inv-loop μ-loop
+add-again c = omega arith
 
 loop-less : tie.Need-loop-less Inv-loop μ-loop
-loop-less c = omega (arith, shorter (c .before .before .before .before .before .before .before .before .before .before .before .before .before .before .before .args .s .now) (c .before .before .before .before .before .before .before .before .before .before .loop .s) (c .before .before .before .before .before .before .before .before .before .before .loop .inv) (c .before .before .before .before .before .before .before .before .poll-pop-filter-update .last .0) (c .before .before .before .before .before .before .before .before .poll-pop-filter-update .ensures .1) (c .before .before .before .before .before .before .before .before .poll-pop-filter-update .result) (c .before .before .before .before .before .before .before .before .poll-pop-filter-update .ensures .0) (c .before .before .before .before .enum-told .given .1), not-longer (c .before .before .before .before .before .before .before .before .before .before .before .before .before .before .before .args .s .now) (c .before .before .before .before .before .before .before .before .poll-pop-filter-update .last .0) (goes-on (c .before .before .before .before .before .before .before .before .before .before .before .before .before .before .before .args .s .now) (c .before .before .before .before .before .before .before .before .before .before .loop .s) (c .before .before .before .before .before .before .before .before .before .before .loop .inv) (c .before .before .before .before .before .before .before .before .poll-pop-filter-update .last .0) (c .before .before .before .before .before .before .before .before .poll-pop-filter-update .ensures .1) (c .before .before .before .before .before .before .before .before .poll-pop-filter-update .result) (c .before .before .before .before .before .before .before .before .poll-pop-filter-update .ensures .0) (c .before .before .before .before .enum-told .given .1)) (c .before .before .activate-known .last .0) (c .before .before .activate-known .ensures))
+loop-less c = shorter (c .before .before .before .before .before .before .before .before .before .before .before .before .args .s .now) (c .before .before .before .before .before .before .before .loop .s) (c .before .before .before .before .before .before .before .loop .inv) (c .before .before .before .before .before .poll-pop-filter-update .last .0) (c .before .before .before .before .before .poll-pop-filter-update .ensures .1) (c .before .before .before .before .before .poll-pop-filter-update .result) (c .before .before .before .before .before .poll-pop-filter-update .ensures .0) (c .before .enum-told .given .1)
 
 loop-again : tie.Need-loop-again Inv-loop μ-loop
-loop-again c = goes-on-later (c .before .before .before .before .before .before .before .before .before .before .before .before .before .before .before .args .s .now) (c .before .before .before .before .before .before .before .before .poll-pop-filter-update .last .0) (goes-on (c .before .before .before .before .before .before .before .before .before .before .before .before .before .before .before .args .s .now) (c .before .before .before .before .before .before .before .before .before .before .loop .s) (c .before .before .before .before .before .before .before .before .before .before .loop .inv) (c .before .before .before .before .before .before .before .before .poll-pop-filter-update .last .0) (c .before .before .before .before .before .before .before .before .poll-pop-filter-update .ensures .1) (c .before .before .before .before .before .before .before .before .poll-pop-filter-update .result) (c .before .before .before .before .before .before .before .before .poll-pop-filter-update .ensures .0) (c .before .before .before .before .enum-told .given .1)) (c .before .before .activate-known .last .0) (c .before .before .activate-known .ensures)
+loop-again c = goes-on (c .before .before .before .before .before .before .before .before .before .before .before .before .args .s .now) (c .before .before .before .before .before .before .before .loop .s) (c .before .before .before .before .before .before .before .loop .inv) (c .before .before .before .before .before .poll-pop-filter-update .last .0) (c .before .before .before .before .before .poll-pop-filter-update .ensures .1) (c .before .before .before .before .before .poll-pop-filter-update .result) (c .before .before .before .before .before .poll-pop-filter-update .ensures .0) (c .before .enum-told .given .1)
+
+activate-known-requires : tie.Need-activate-known-requires Inv-loop μ-loop
+activate-known-requires c κs = (goes-on (c .before .before .before .before .before .before .before .before .before .before .before .before .before .args .s .now) (c .before .before .before .before .before .before .before .before .loop .s) (c .before .before .before .before .before .before .before .before .loop .inv) (c .before .before .before .before .before .before .poll-pop-filter-update .last .0) (c .before .before .before .before .before .before .poll-pop-filter-update .ensures .1) (c .before .before .before .before .before .before .poll-pop-filter-update .result) (c .before .before .before .before .before .before .poll-pop-filter-update .ensures .0) (c .before .before .enum-told .given .1) .whole, idle-then (c .before .before .before .before .before .before .before .before .before .before .before .before .before .args .s .now) (c .before .before .before .before .before .before .before .before .loop .s) (c .before .before .before .before .before .before .before .before .loop .inv) (c .before .before .before .before .before .before .poll-pop-filter-update .last .0) (c .before .before .before .before .before .before .poll-pop-filter-update .ensures .1) (c .before .before .before .before .before .before .poll-pop-filter-update .result) (c .before .before .before .before .before .before .poll-pop-filter-update .ensures .0) (c .before .before .enum-told .given .1))
+
+loop-less-2 : tie.Need-loop-less-2 Inv-loop μ-loop
+loop-less-2 c = omega (arith, shorter (c .before .before .before .before .before .before .before .before .before .before .before .before .before .before .before .before .args .s .now) (c .before .before .before .before .before .before .before .before .before .before .before .loop .s) (c .before .before .before .before .before .before .before .before .before .before .before .loop .inv) (c .before .before .before .before .before .before .before .before .before .poll-pop-filter-update .last .0) (c .before .before .before .before .before .before .before .before .before .poll-pop-filter-update .ensures .1) (c .before .before .before .before .before .before .before .before .before .poll-pop-filter-update .result) (c .before .before .before .before .before .before .before .before .before .poll-pop-filter-update .ensures .0) (c .before .before .before .before .before .enum-told .given .1), not-longer (c .before .before .before .before .before .before .before .before .before .before .before .before .before .before .before .before .args .s .now) (c .before .before .before .before .before .before .before .before .before .poll-pop-filter-update .last .0) (goes-on (c .before .before .before .before .before .before .before .before .before .before .before .before .before .before .before .before .args .s .now) (c .before .before .before .before .before .before .before .before .before .before .before .loop .s) (c .before .before .before .before .before .before .before .before .before .before .before .loop .inv) (c .before .before .before .before .before .before .before .before .before .poll-pop-filter-update .last .0) (c .before .before .before .before .before .before .before .before .before .poll-pop-filter-update .ensures .1) (c .before .before .before .before .before .before .before .before .before .poll-pop-filter-update .result) (c .before .before .before .before .before .before .before .before .before .poll-pop-filter-update .ensures .0) (c .before .before .before .before .before .enum-told .given .1)) (c .before .before .activate-known .last .0) (c .before .before .activate-known .ensures))
+
+loop-again-2 : tie.Need-loop-again-2 Inv-loop μ-loop
+loop-again-2 c = goes-on-later (c .before .before .before .before .before .before .before .before .before .before .before .before .before .before .before .before .args .s .now) (c .before .before .before .before .before .before .before .before .before .poll-pop-filter-update .last .0) (goes-on (c .before .before .before .before .before .before .before .before .before .before .before .before .before .before .before .before .args .s .now) (c .before .before .before .before .before .before .before .before .before .before .before .loop .s) (c .before .before .before .before .before .before .before .before .before .before .before .loop .inv) (c .before .before .before .before .before .before .before .before .before .poll-pop-filter-update .last .0) (c .before .before .before .before .before .before .before .before .before .poll-pop-filter-update .ensures .1) (c .before .before .before .before .before .before .before .before .before .poll-pop-filter-update .result) (c .before .before .before .before .before .before .before .before .before .poll-pop-filter-update .ensures .0) (c .before .before .before .before .before .enum-told .given .1)) (c .before .before .activate-known .last .0) (c .before .before .activate-known .ensures)
 
 enum-told-2 : tie.Need-enum-told-2 Inv-loop μ-loop
 enum-told-2 c = search needs
@@ -84,9 +93,12 @@ poll-pop-spec =
     enum-known-x
     enum-known-a
     enum-told
-    activate-known-requires
+    add-again
     loop-less
     loop-again
+    activate-known-requires
+    loop-less-2
+    loop-again-2
     enum-told-2
     same-length-2
     returns-2

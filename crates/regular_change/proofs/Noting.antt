@@ -49,11 +49,13 @@ pub group-is : (s start : List ℕ) (first last i : ℕ) → Noting s start firs
     → (g ≤ i) × (subjectAt (inactivePart s) g ≡ subjectAt (inactivePart s) i)
 group-is s start first last i h x qx g qg = elim (compareEq last x) [
   | same z b ↦
-      (let f : g ≡ first = qg ∙ ap (λ (t : Bool). cond t first i) b in
-      (omega (arith, h .behind), elim (decLt 0 i) [
-        | yes p ↦ ap (subjectAt (inactivePart s)) f ∙ sym (h .on p) ∙ z ∙ qx
-        | no p ↦ (let o : g ≡ i = omega (arith, h .behind) in ap (subjectAt (inactivePart s)) o)
-      ]))
+      (let f : g ≡ first = qg ∙ ap (λ (t : Bool). cond t first i) b in (
+        omega (arith, h .behind),
+        elim (decLt 0 i) [
+          | yes p ↦ ap (subjectAt (inactivePart s)) f ∙ sym (h .on p) ∙ z ∙ qx
+          | no p ↦ (let o : g ≡ i = omega (arith, h .behind) in ap (subjectAt (inactivePart s)) o)
+        ],
+      ))
   | diff z b ↦ (let f : g ≡ i = qg ∙ ap (λ (t : Bool). cond t first i) b in (omega arith, ap (subjectAt (inactivePart s)) f))
 ]
 

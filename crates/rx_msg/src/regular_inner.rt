@@ -175,7 +175,7 @@ pub fn poll_pop(s: &mut [u8]) -> Answer
     if whole(s) {} else {
         return Answer::Refused(1);
     }
-    let mut again = 0;
+    let mut again: u8 = 0;
     let found = loop {
         match poll_pop_filter_update(s) {
             Popped::AddSubject(x) => break Answer::AddSubject(x),

@@ -6,7 +6,7 @@ use mathlib.Core.List.{List, [], _∷_, _++_}
 use mathlib.Core.Bool.{true, not}
 use native.Mathlib.Omega.{arith}
 use native.Mathlib.Decide.{decLt}
-use lib.ListN.{length, getD, set, replicate, length-replicate}
+use lib.ListN.{length, getD, set, drop, replicate, length-replicate}
 use lib.Dec.{ltb, eqb}
 use borrow.Author.Tests.{lt-ltb, le-ltb, eq-eqb, ne-eqb}
 use Rattle.state.specs.Lengths.{listsAllowed, listsLength}
@@ -17,11 +17,12 @@ use Rattle.multi_cycle_list.specs.Inner.{unbindB, moveAfterB, moveBefore
 use Rattle.multi_cycle_list.specs.Lists.{Lists, Valid, counts, row, first, last, removed, pushedFront, pushedBack, withRows, without-entry, movedFront, movedBack, empty}
 use Rattle.multi_cycle_list.specs.Laid.{laid}
 use Rattle.multi_cycle_list.proofs.WholeTools.{whole-sizes, allowed-of}
-use Rattle.multi_cycle_list.proofs.Lists.{In, in-count}
+use Rattle.multi_cycle_list.specs.declared.inner.MaybeEntry.the-variants.{Some}
+use Rattle.multi_cycle_list.proofs.Lists.{Below, In, in-count}
 use Rattle.multi_cycle_list.proofs.Chain.{Chain, tail-from}
 use Rattle.multi_cycle_list.proofs.Arcs.{row-count, counts-in}
 use Rattle.multi_cycle_list.proofs.Sound.{sound}
-use Rattle.multi_cycle_list.proofs.Meaning.{Turned, turned-whole, turned-lists, unbound, removed-is, front-turned, back-turned, pushed-is, taken-is, list-at, asEntry, first-of, last-of}
+use Rattle.multi_cycle_list.proofs.Meaning.{Turned, turned-whole, turned-lists, unbound, removed-is, front-turned, back-turned, pushed-is, taken-is, list-at, asEntry, first-from, first-of, last-of}
 use Rattle.multi_cycle_list.proofs.FreshMeaning.{opened}
 use Rattle.multi_cycle_list.proofs.Laid.{lists, laid-read, laid-whole, read-laid, read-valid}
 
@@ -34,6 +35,22 @@ rows-length s = length-each (classes s) (listOf s)
 module _ (s : List ℕ) (c : ℕ) (h : wholeB s ≡ true) (hc : c < classes s) where
   pub front-is : asEntry s (next s c) ≡ first (row (read s) c)
   front-is = first-of s c (listOf s c) hc (sound s h .chains c hc) ∙ ap first (sym (list-at s c hc))
+
+  -- behind the front e
+  pub second-is : (e : ℕ) → first (row (read s) c) ≡ Some e → asEntry s (next s (classes s + e)) ≡ first (drop 1 (row (read s) c))
+  second-is e q = go (listOf s c) (sound s h .chains c hc) (ap first (sym (list-at s c hc)) ∙ q) ∙ ap (λ (l : List ℕ). first (drop 1 l)) (sym (list-at s c hc))
+    where
+      go : (l : List ℕ) → Chain (classes s) (next s) (prev s) c l c → first l ≡ Some e → asEntry s (next s (classes s + e)) ≡ first (drop 1 l)
+      go [] p z = absurd (let o : _≡_ {A = ℕ} 0 1 = cc in omega arith)
+      go (x ∷ l) p z = let y : x ≡ e = cc in ap (λ (k : ℕ). asEntry s (next s (classes s + k))) (sym y) ∙ first-from s (classes s + x) c l hc (p .1)
+
+  -- the front is an entry
+  pub front-in : (e : ℕ) → first (row (read s) c) ≡ Some e → e < entries s
+  front-in e q = go (listOf s c) (sound s h .inside c hc) (ap first (sym (list-at s c hc)) ∙ q)
+    where
+      go : (l : List ℕ) → Below (entries s) l → first l ≡ Some e → e < entries s
+      go [] p z = absurd (let o : _≡_ {A = ℕ} 0 1 = cc in omega arith)
+      go (x ∷ l) p z = let y : x ≡ e = cc in omega (arith, p .0)
 
   pub back-is : asEntry s (prev s c) ≡ last (row (read s) c)
   back-is = last-of s c (listOf s c) hc (sound s h .chains c hc) ∙ ap last (sym (list-at s c hc))

@@ -1,22 +1,21 @@
 -- Trees that change in one pass: laws of the pairs that stay, of the entries that fill places, and of two lists that become one.
-use Prim.Native.Nat.{ℕ, zero, suc, _+_, _-_, _*_, _<_, _≤_}
+use Prim.Native.Nat.{ℕ, zero, suc, _+_, _-_, _<_, _≤_}
 use mathlib.Core.Path.{_≡_, refl, sym, ap, _∙_, subst}
 use mathlib.Core.List.{List, [], _∷_}
 use mathlib.Core.Bool.{Bool, true, false, cond}
 use native.Mathlib.Omega.{arith}
-use native.Mathlib.Decide.{ℕ-discrete, decLt}
+use native.Mathlib.Decide.{decLt}
 use native.Mathlib.Nat.{not-suc-le-zero}
-use lib.ListN.{length, getD, set, drop, length-set, drop-of-length-le}
+use lib.ListN.{length, getD, set, drop, drop-of-length-le}
 use lib.Seq.{drop-cons, getD-set-same, getD-set-other}
-use lib.Dec.{eqb, leb, ltb}
-use borrow.Author.Tests.{le-leb, lt-leb, lt-ltb, le-ltb, eq-eqb, ne-eqb}
+use lib.Dec.{eqb, ltb}
+use borrow.Author.Tests.{le-leb, lt-leb, lt-ltb, le-ltb}
 use Rattle.entry_tree.specs.Pairs.{Pair, pair, bit, count, isEntry, find, placeOf, without, inserted, inOrder}
-use Rattle.entry_tree.specs.Places.{treeLength, size, subjectAt, pairAt, read}
-use Rattle.entry_tree.specs.Inner.{cellAt, cellOf, setCell, kept, stays, filled, merged, Written}
+use Rattle.entry_tree.specs.Places.{size, pairAt, read}
+use Rattle.entry_tree.specs.Inner.{kept, stays, filled, merged}
 use Rattle.entry_tree.proofs.Lists.{none}
 use Rattle.entry_tree.proofs.Reading.{read-length, read-at}
 use Rattle.entry_tree.proofs.Changes.{order-parts, order-cons, order-lower, by-order, inserted-length, inserted-count}
-use Rattle.entry_tree.proofs.Cells.{set-length, set-other, set-same, set-number}
 use Rattle.entry_tree.proofs.Count.{same, diff, compareEq}
 
 -- ---- a list from a place on

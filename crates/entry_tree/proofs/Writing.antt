@@ -1,24 +1,23 @@
 -- What the loops of src/merge.rt keep, and that the bytes they leave are those of the changed list.
-use Prim.Native.Nat.{ℕ, zero, suc, _+_, _-_, _*_, _<_, _≤_}
+use Prim.Native.Nat.{ℕ, suc, _+_, _-_, _*_, _<_, _≤_}
 use mathlib.Core.Path.{_≡_, refl, sym, ap, _∙_, subst}
 use mathlib.Core.List.{List, [], _∷_, _++_}
 use mathlib.Core.Bool.{Bool, true, false, cond, _&&_, _||_}
 use native.Mathlib.Omega.{arith}
 use native.Mathlib.Decide.{ℕ-discrete, decLt}
 use lib.ListN.{length, getD, set, take, drop, replicate, length-set, length-append, length-drop, length-replicate, getD-replicate, List·getD-append}
-use lib.Seq.{drop-cons, getD-set-same, getD-set-other, getD-append-add, getD-take, getD-drop, length-take-le}
-use lib.Dec.{eqb, leb, ltb}
+use lib.Seq.{drop-cons, getD-set-same, getD-append-add, getD-take, getD-drop, length-take-le}
+use lib.Dec.{leb, ltb}
 use borrow.Author.Tests.{le-leb, lt-leb, lt-ltb, le-ltb, eq-eqb, ne-eqb, leb-true, leb-false}
 use borrow.Rule.Slice.PartMut.{putMid}
-use Rattle.state.specs.Result.{Bytes}
-use Rattle.entry_tree.specs.Pairs.{Pair, pair, inserted, inOrder}
-use Rattle.entry_tree.specs.Places.{treeLength, size, taken, entryAt, subjectAt, pairAt, read, laid}
+use Rattle.entry_tree.specs.Pairs.{Pair, pair, inOrder}
+use Rattle.entry_tree.specs.Places.{treeLength, size, entryAt, subjectAt, pairAt, read, laid}
 use Rattle.entry_tree.specs.Inner.{Cell, cellAt, cellOf, setCell, kept, stays, filled, merged, Written}
 use Rattle.entry_tree.proofs.Lists.{none}
-use Rattle.entry_tree.proofs.Reading.{read-length, read-at}
-use Rattle.entry_tree.proofs.Changes.{order-parts, order-cons, order-lower}
+use Rattle.entry_tree.proofs.Reading.{read-length}
+use Rattle.entry_tree.proofs.Changes.{order-cons}
 use Rattle.entry_tree.proofs.Cells.{cell-same, set-length, set-number, set-other, set-same, number-cell}
-use Rattle.entry_tree.proofs.Laid.{Has, has-one, laid-has, freed, cell-pair}
+use Rattle.entry_tree.proofs.Laid.{has-one, laid-has, freed}
 use Rattle.entry_tree.proofs.Merging.{drop-first, drop-nothing, order-drop, tree-from, tree-end, merged-first, merged-second, merged-length, kept-yes, kept-no, filled-none, filled-order}
 
 -- ---- pairs written one after the other

@@ -1,16 +1,15 @@
 -- What is noted of the inactive entries: where those of a subject begin, and which place is the next to be filled.
-use Prim.Native.Nat.{ℕ, zero, suc, _+_, _-_, _<_, _≤_}
-use mathlib.Core.Path.{_≡_, refl, sym, ap, _∙_, subst}
+use Prim.Native.Nat.{ℕ, _+_, _-_, _<_, _≤_}
+use mathlib.Core.Path.{_≡_, sym, ap, _∙_, subst}
 use mathlib.Core.List.{List}
 use mathlib.Core.Bool.{Bool, true, false, cond}
 use native.Mathlib.Omega.{arith}
 use native.Mathlib.Decide.{ℕ-discrete, decLt}
 use lib.Dec.{eqb}
-use lib.ListN.{length, getD, set, replicate, length-set, length-replicate, getD-replicate}
+use lib.ListN.{getD, set, replicate, length-set, length-replicate, getD-replicate}
 use lib.Seq.{getD-set-same, getD-set-other}
 use borrow.Author.Tests.{eq-eqb}
-use Rattle.state.specs.Result.{Bytes}
-use Rattle.entry_tree.specs.Pairs.{Pair, position, isEntry, onSubject, hasSubject, placeOf}
+use Rattle.entry_tree.specs.Pairs.{position, isEntry, onSubject, hasSubject, placeOf}
 use Rattle.entry_tree.specs.Places as tree
 use Rattle.entry_tree.specs.Places.{size, entryAt, subjectAt}
 use Rattle.entry_tree.proofs.Reading.{read-length, read-at, read-place-subject}

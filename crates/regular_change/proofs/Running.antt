@@ -1,14 +1,13 @@
 -- Many inner steps at once: what each makes of the registry and of the entries noted.
-use Prim.Native.Nat.{ℕ, zero, suc, _+_, _-_, _<_, _≤_}
+use Prim.Native.Nat.{ℕ, zero, suc, _-_, _<_, _≤_}
 use mathlib.Core.Path.{_≡_, refl, sym, ap, _∙_, subst}
-use mathlib.Core.Logic.{_≢_}
 use mathlib.Core.List.{List, [], _∷_}
 use mathlib.Core.Bool.{Bool, true, false, cond}
 use native.Mathlib.Omega.{arith}
 use native.Mathlib.Decide.{ℕ-discrete, decLt}
 use lib.ListN.{length, getD, set, replicate, length-set, length-replicate, getD-replicate}
 use lib.Seq.{getD-set-same, getD-set-other}
-use borrow.Author.Tests.{lt-ltb, eq-eqb}
+use borrow.Author.Tests.{eq-eqb}
 use Rattle.multi_cycle_list.specs.Lists as lists
 use Rattle.multi_cycle_list.proofs.Lists.{count-same}
 use Rattle.entry_tree.specs.Pairs.{Pair, pair, count, isEntry, onSubject, hasSubject, placeOf, without, inserted, inOrder}

@@ -28,7 +28,7 @@ use Rattle.regular.specs.Bytes.{activePart, inactivePart, queuePart, read, whol
 use Rattle.regular.specs.Steps.{innerStep}
 use Rattle.regular.proofs.Parts.{Joined, put-active, put-inactive, put-queue, tail-at, active-is, inactive-is, queue-is, long}
 use Rattle.entry_tree.specs.Walks.{walkOver}
-use Rattle.regular_valid.proofs.Facts.{Facts, at-most}
+use Rattle.regular_valid.proofs.Facts.{at-most}
 use Rattle.regular_valid.proofs.Valid.{Whole, inner-whole}
 use Rattle.regular_valid.proofs.Reading.{parts, read-facts, read-whole, queue-valid}
 use Rattle.regular_valid.proofs.Round.{tailOf, split-long, laid-from, queue-read, queue-self, low-self, high-self, flag-self, walk-self}

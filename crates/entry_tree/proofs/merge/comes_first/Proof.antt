@@ -1,6 +1,6 @@
 use borrow.Author.Needs.{needs}
 use native.Mathlib.Omega.{arith}
-use mathlib.Core.Path.{sym, ap, _∙_}
+use mathlib.Core.Path.{ap, _∙_}
 use lib.Dec.{leb}
 use Rattle.entry_tree.specs.Places.{size, subjectAt}
 use Rattle.entry_tree.proofs.Writing.{first-none, first-alone, first-by}

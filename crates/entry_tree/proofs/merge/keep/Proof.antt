@@ -1,8 +1,7 @@
 use borrow.Author.Needs.{needs}
 use native.Mathlib.Omega.{arith}
 use Prim.Native.Nat.{_-_}
-use mathlib.Core.Path.{refl, sym, ap, _∙_}
-use Rattle.state.proofs.Tests.{byte-fits}
+use mathlib.Core.Path.{refl, _∙_}
 use Rattle.entry_tree.proofs.Writing.{Keeping, keeping-none, keeping-yes, keeping-no, keeping-end}
 use Rattle.entry_tree.proofs.merge.keep.Statement.{statement}
 use Rattle.entry_tree.proofs.merge.keep.Tie as tie

@@ -1,8 +1,8 @@
 use borrow.Author.Needs.{needs}
 use native.Mathlib.Omega.{arith}
 use Prim.Native.Nat.{ℕ, _+_, _-_, _*_}
-use mathlib.Core.Path.{_≡_, refl, sym, ap, _∙_}
-use lib.ListN.{length, take, drop, replicate, length-set}
+use mathlib.Core.Path.{refl, ap, _∙_}
+use lib.ListN.{replicate, length-set}
 use borrow.Rule.Slice.PartMut.{same-len-mid}
 use Rattle.entry_tree.proofs.Writing.{marked-laid, part-long}
 use Rattle.entry_tree.proofs.merge.remove_marked.Statement.{statement}

@@ -1,6 +1,4 @@
-use borrow.Author.Needs.{needs}
 use native.Mathlib.Omega.{arith}
-use Prim.Native.Nat.{ℕ, _+_, _*_}
 use borrow.Author.Tests.{lt-ltb, le-ltb}
 use Rattle.state.proofs.Tests.{byte-fits}
 use Rattle.multi_cycle_list.proofs.WholeTools.{whole-sizes}

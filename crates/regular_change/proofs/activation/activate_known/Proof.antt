@@ -1,13 +1,5 @@
 use borrow.Author.Needs.{needs}
-use native.Mathlib.Omega.{arith}
-use mathlib.Core.Path.{sym, ap, _∙_, subst, _≡_}
-use mathlib.Core.List.{List}
-use mathlib.Core.Bool.{true}
-use Prim.Native.Nat.{ℕ}
-use Rattle.entry_tree.specs.Pairs.{inOrder}
-use Rattle.entry_tree.specs.Places as tree
 use Rattle.entry_tree.proofs.Reading.{bytes-of}
-use Rattle.regular_change.proofs.Looks.{known}
 use Rattle.regular_change.proofs.Taking.{room-then, few-then, order-a-then, order-i-then, activated}
 use Rattle.regular_change.proofs.activation.activate_known.Statement.{statement}
 use Rattle.regular_change.proofs.activation.activate_known.Tie as tie

@@ -1,14 +1,14 @@
 use borrow.Author.Needs.{needs}
 use native.Mathlib.Omega.{arith}
 use Prim.Native.Nat.{ℕ, _+_, _≤_}
-use mathlib.Core.Path.{_≡_, refl, sym, ap, _∙_, subst}
+use mathlib.Core.Path.{_≡_, sym, ap, _∙_, subst}
 use mathlib.Core.List.{List}
 use mathlib.Core.Bool.{true}
 use lib.ListN.{length}
 use Rattle.entry_tree.specs.Pairs.{inOrder}
 use Rattle.entry_tree.specs.Places as tree
-use Rattle.entry_tree.specs.Inner.{kept, stays, filled, merged}
-use Rattle.regular.specs.Bytes.{activePart, inactivePart}
+use Rattle.entry_tree.specs.Inner.{kept, filled}
+use Rattle.regular.specs.Bytes.{inactivePart}
 use Rattle.regular_change.proofs.Taking.{inactive-then, part-long-a, part-long-i, changed}
 use Rattle.regular_change.proofs.activation.change_trees.Statement.{statement}
 use Rattle.regular_change.proofs.activation.change_trees.Tie as tie

@@ -4,7 +4,6 @@ use Prim.Native.Nat.{ℕ, _-_}
 use mathlib.Core.Path.{sym, ap, _∙_, subst}
 use mathlib.Core.List.{List}
 use lib.ListN.{length, length-replicate}
-use Rattle.state.proofs.Tests.{byte-fits}
 use Rattle.regular_change.proofs.Looks.{known}
 use Rattle.regular_change.proofs.Noting.{Noting, noting-none, group-is, noting-more}
 use Rattle.regular_change.proofs.activation.note_starts.Statement.{statement}

@@ -9,7 +9,7 @@ import subprocess
 import threading
 
 from proving import WORK
-from source import File, Trouble, root
+from source import File, Trouble, digest_of, root
 
 HOME = WORK / "compiled"
 RUSTC = ["nice", "rustc", "--edition", "2021", "-O", "-C", "overflow-checks=on", "-C", "panic=abort", "--cap-lints", "allow"]
@@ -192,26 +192,73 @@ class Program:
         return ""
 
 
+class Stage:
+    """A way to run compiled code: how it is compiled, and by which programs it is run. What they need is built when the first mutant
+    asks, and the code as it stands must pass."""
+
+    def __init__(self, compiler, build, programs, everything):
+        self.compiler, self.build, self.programs, self.everything = compiler, build, programs, everything
+        self.lock, self.ready = threading.Lock(), False
+
+    def prepare(self):
+        with self.lock:
+            if self.ready:
+                return
+            passed, key = HOME / f"{self.compiler.top}.passed", self.key()
+            if not passed.exists() or passed.read_text(encoding="utf-8") != key:
+                passed.unlink(missing_ok=True)
+                self.build()
+                how = caught(self.compiler.unchanged(), self.programs(self.everything))
+                if how:
+                    raise Trouble(f"{self.compiler.top}, as it stands and compiled as Rust, does not pass: {how}")
+                passed.write_text(key, encoding="utf-8")
+            self.ready = True
+
+    def key(self):
+        """A sum of all that is compiled: where it is the same as at an earlier run, what was built then is used again."""
+        here = [root / part for part in ("driver", "oracle", "include", "mutation/compiled.py", "mutation/source.py")]
+        here += [root / "crates" / crate / "src" for crate in self.compiler.wanted]
+        return digest_of(here)
+
+    def run(self, mutant, what):
+        """Compiles and runs a mutant; the program that told it and how, or nothing."""
+        self.prepare()
+        built = self.compiler.changed(mutant)
+        how = caught(built, self.programs(what))
+        shutil.rmtree(built.parent)
+        return how
+
+
+def caught(built, programs):
+    """The first program that tells the built code from what it should be, and how; or nothing."""
+    for program in programs:
+        how = program.differs(built)
+        if how:
+            return [program.name, how]
+    return None
+
+
+def by_exports(kinds):
+    compare = [HOME / "tree/target/oracle/compare", "--seed", "1", "--calls", "300000"]
+    return [
+        Program("compare", [*compare, "--kinds", ",".join(["leaves", "vectors", *kinds])], 60),
+        Program("compare", [*compare, "--kinds", "cases,panics"], 30),
+        Program("c_test", [HOME / "driver/c_test"], 30),
+        Program("fuzz", [HOME / "driver/fuzz", "--seed", "1"], 90),
+    ]
+
+
+def by_calls(_):
+    return [Program("calls", [], 10, root / "crates/calls")]
+
+
 class Runs:
-    """The programs that a compiled mutant is run by. What they need is built when the first one asks."""
+    """The exports, and the program `calls`."""
 
     def __init__(self, tree, deps):
         self.tree = tree
-        self.exports = Compiler(tree, deps, "gomxeli")
-        self.calls = Compiler(tree, deps, "calls")
-        self.lock, self.built = threading.Lock(), False
-
-    def prepare(self):
-        """Builds the programs and holds them to the code as it stands, which no run may tell from the Rust."""
-        with self.lock:
-            if self.built:
-                return
-            build_programs()
-            for compiler, programs in ((self.exports, self.by_exports(KINDS)), (self.calls, self.by_calls())):
-                how = self.catch(compiler.unchanged(), programs)
-                if how:
-                    raise Trouble(f"{compiler.top}, as it stands and compiled as Rust, does not pass: {how}")
-            self.built = True
+        self.exports = Stage(Compiler(tree, deps, "gomxeli"), build_programs, by_exports, KINDS)
+        self.calls = Stage(Compiler(tree, deps, "calls"), lambda: None, by_calls, None)
 
     def kinds(self, function):
         """The kinds of the exports that reach the function."""
@@ -221,33 +268,8 @@ class Runs:
                 found |= {kind for kind in KINDS if f"::gomxeli_{kind}_" in path}
         return sorted(found)
 
-    def by_exports(self, kinds):
-        compare = [HOME / "tree/target/oracle/compare", "--seed", "1", "--calls", "300000"]
-        return [
-            Program("compare", [*compare, "--kinds", ",".join(["leaves", "vectors", *kinds])], 60),
-            Program("compare", [*compare, "--kinds", "cases,panics"], 30),
-            Program("c_test", [HOME / "driver/c_test"], 30),
-            Program("fuzz", [HOME / "driver/fuzz", "--seed", "1"], 90),
-        ]
-
-    def by_calls(self):
-        return [Program("calls", [], 10, root / "crates/calls")]
-
-    def catch(self, built, programs):
-        """The first program that tells the built code from what it should be, and how; or nothing."""
-        for program in programs:
-            how = program.differs(built)
-            if how:
-                return [program.name, how]
-        return None
-
     def run(self, mutant):
-        """Compiles and runs a mutant; what caught it, or nothing."""
-        self.prepare()
-        if mutant.crate in ("calls", "calls_line"):
-            built, programs = self.calls.changed(mutant), self.by_calls()
-        else:
-            built, programs = self.exports.changed(mutant), self.by_exports(self.kinds(mutant.function))
-        how = self.catch(built, programs)
-        shutil.rmtree(built.parent)
-        return how
+        """Compiles and runs a mutant; what told it, or nothing."""
+        if mutant.crate == "calls_line":
+            return self.calls.run(mutant, None)
+        return self.exports.run(mutant, self.kinds(mutant.function))

@@ -51,6 +51,8 @@ class Body:
         for at in range(function.start, function.end):
             if self.tokens[at].text == "let":
                 self.read_let(at)
+            if self.tokens[at].text == "for":
+                self.bound.append((self.tokens[at + 1].text, "usize", at, close_of(self.tokens, self.body_of(at))))
 
     # ---- names and types
 
@@ -151,7 +153,11 @@ class Body:
         sign = self.tokens[at].text
         near = self.tokens[at - 1].text == ")" and self.tokens[at + 1].text == "("
         new = COMPARISONS.get(sign, [])[: 1 if near else 2]
-        return [self.edit("comparison", at, at, sign) for sign in new]
+        return [self.edit("comparison", at, at, other) for other in new if self.can_follow(at, other)]
+
+    def can_follow(self, at, sign):
+        """After a cast, `<` would open a list of types."""
+        return not (self.tokens[at - 2].text == "as" and sign.startswith("<") and sign != "<=")
 
     def operator(self, at):
         sign = self.tokens[at].text
@@ -160,7 +166,7 @@ class Body:
             return [self.edit("operator", at, at, "")]
         if sign not in OPERATORS or not (before.kind in ("word", "number") or before.text in ")]"):
             return []
-        if before.text in ("return", "mut", "match", "if"):
+        if before.text in ("return", "mut", "match", "if") or not self.can_follow(at, OPERATORS[sign]):
             return []
         return [self.edit("operator", at, at, OPERATORS[sign])]
 
@@ -256,12 +262,17 @@ class Body:
                 edits.append(Mutant(self.function, "operands swapped", one[0], two[1], swapped))
         return edits
 
+    def body_of(self, at):
+        """Where the block of an `if`, a `while` or a `for` opens."""
+        at += 1
+        while self.tokens[at].text != "{":
+            at = close_of(self.tokens, at) + 1 if self.tokens[at].text in OPEN else at + 1
+        return at
+
     def condition(self, at):
         if self.tokens[at].text not in ("if", "while") or self.tokens[at + 1].text == "let":
             return []
-        end = at + 1
-        while self.tokens[end].text != "{":
-            end = close_of(self.tokens, end) + 1 if self.tokens[end].text in OPEN else end + 1
+        end = self.body_of(at)
         text = self.file.text[self.tokens[at + 1].start : self.tokens[end - 1].end]
         plain = all(t.text not in COMPARISONS for t in self.tokens[at + 1 : end])
         return [self.edit("negated condition", at + 1, end - 1, f"!{text}" if plain else f"!({text})")]
@@ -271,14 +282,11 @@ class Body:
         if self.tokens[at - 1].text not in ("{", "}", ";", "=>"):
             return []
         first = self.tokens[at].text
-        if self.tokens[at].kind != "word" or first in ("let", "return", "break", "continue", "while", "loop", "match", "else"):
+        if self.tokens[at].kind != "word" or first in ("let", "return", "break", "continue", "while", "for", "loop", "match", "else"):
             return []
         end = self.block_end(at)
         if first == "if":
-            close = at + 1
-            while self.tokens[close].text != "{":
-                close = close_of(self.tokens, close) + 1 if self.tokens[close].text in OPEN else close + 1
-            close = close_of(self.tokens, close)
+            close = close_of(self.tokens, self.body_of(at))
             return [] if self.tokens[close + 1].text == "else" else [self.edit("statement left out", at, close, "")]
         stop = parts_of(self.tokens, at, end, ";")[0][1]
         if self.tokens[stop].text != ";" or self.tokens[at - 1].text == "=>":
@@ -298,6 +306,7 @@ def numbered(found):
 
 
 def places(tree, function):
+    """Every edit that fits."""
     return Body(tree, function).edits()
 
 

@@ -52,12 +52,12 @@ class Copy:
             (self.place / file.place.relative_to(root)).write_text(file.text, encoding="utf-8")
 
 
-def batches(tree, mutants):
-    """Mutants that can be checked at once: of different functions, none of which calls another, itself or through others."""
+def batches(mutants, apart):
+    """Mutants that are checked at once: any two of them may not be `apart`."""
     found = []
     for mutant in mutants:
         for batch in found:
-            if not any(meet(tree, mutant, other) or meet(tree, other, mutant) for other in batch):
+            if not any(apart(mutant, other) or apart(other, mutant) for other in batch):
                 batch.append(mutant)
                 break
         else:
@@ -65,12 +65,29 @@ def batches(tree, mutants):
     return found
 
 
-def meet(tree, one, other):
-    """Whether the one's function is the other's or calls it, with its edit or without."""
-    called = {one.function.path} | tree.reaches(one.function)
-    if one.callee:
-        called |= {one.callee.path} | tree.reaches(one.callee)
-    return other.function.path in called
+def called(tree, function):
+    return {function.path} | tree.reaches(function)
+
+
+def one_function(tree):
+    """Two mutants of one function, or two that could make their functions call each other, are apart."""
+
+    def apart(one, other):
+        if one.function is other.function:
+            return True
+        return bool(one.callee and other.callee) and other.function.path in called(tree, one.callee)
+
+    return apart
+
+
+def no_calls(tree):
+    """Two mutants are apart where the one's function calls the other's, with its edit or without."""
+
+    def apart(one, other):
+        here = called(tree, one.function) | (called(tree, one.callee) if one.callee else set())
+        return other.function.path in here
+
+    return apart
 
 
 def without_code(said, batch):
@@ -88,43 +105,58 @@ def without_code(said, batch):
 
 
 def verdict(said, mutant):
-    """What the log says of the mutant's function, and the words that tell. 'accepted': it is proved. 'fact': it is refused, and each of
-    its own errors names a fact. 'unfit': it is refused for anything else."""
+    """What the log says of the mutant's function, and the words that tell. 'accepted': it is proved. 'fact': it is refused, an error in
+    its own proof names a fact, and none says that the proof does not fit. 'unfit': it is refused for anything else. None: it waits for a
+    function that it calls and that is refused, and has no error of its own."""
     crate, *inner = mutant.function.path.split("::")
     word = logs.verdicts(said, crate)["::".join(inner)]
-    if word == "proved":
-        return "accepted", word
-    if "it calls" in word:
-        raise Trouble(f"{mutant.name} was checked beside a mutant that it calls: {word}")
     folder = f"/crates/{crate}/proofs/{'/'.join(inner)}/"
     own = [text.partition(folder)[2] for path, _, text in logs.errors(said) if folder in path and not logs.WAITS.search(text)]
-    other = [text for text in own if logs.UNFIT.search(text) or not logs.FACT.search(text)]
-    if other or not own:
-        return "unfit", (other or [word])[0]
-    return "fact", own[0]
+    if word == "proved":
+        return "accepted", word
+    if not own and "it calls" in word:
+        return None
+    unfit = [text for text in own if logs.UNFIT.search(text)]
+    facts = [text for text in own if logs.FACT.search(text)]
+    if facts and not unfit:
+        return "fact", facts[0]
+    return "unfit", (unfit or own or [word])[0]
 
 
-def prove(tree, crate, mutants, tell):
-    """Checks the mutants of a crate; name to verdict and the error that tells."""
-    copy = Copy(crate)
-    if "\nlogic=proved" not in copy.check("unchanged"):
-        raise Trouble(f"{crate} is not proved as it stands: {copy.logs}/unchanged.log")
-    results = {}
-    waiting = batches(tree, mutants)
-    number = 0
-    while waiting:
-        batch, number = waiting.pop(0), number + 1
-        copy.write(batch)
-        said = copy.check(number)
-        copy.restore(batch)
+class Proving:
+    """The checks of a crate's mutants."""
+
+    def __init__(self, tree, crate, tell):
+        self.tree, self.crate, self.tell = tree, crate, tell
+        self.copy, self.results, self.number = Copy(crate), {}, 0
+        if "\nlogic=proved" not in self.copy.check("unchanged"):
+            raise Trouble(f"{crate} is not proved as it stands: {self.copy.logs}/unchanged.log")
+
+    def check(self, batch):
+        """Checks the mutants at once; those that are still to be told."""
+        self.number += 1
+        self.copy.write(batch)
+        said = self.copy.check(self.number)
+        self.copy.restore(batch)
         if "\nlogic=" not in said and "\nrattle: no verdict" not in said:
             rejected = without_code(said, batch)
             if not rejected:
-                raise Trouble(f"no verdict and no place: {copy.logs}/{number}.log")
-            results.update({m.name: ("no code", "") for m in rejected})
+                raise Trouble(f"no verdict and no place: {self.copy.logs}/{self.number}.log")
+            self.results.update({m.name: ("no code", "") for m in rejected})
             rest = [m for m in batch if m not in rejected]
-            waiting[:0] = [rest] if rest else []
-            continue
-        results.update({m.name: verdict(said, m) for m in batch})
-        tell(f"{crate}: {len(results)} of {len(mutants)} checked")
-    return results
+            return self.check(rest) if rest else []
+        found = {m.name: verdict(said, m) for m in batch}
+        self.results.update({name: told for name, told in found.items() if told})
+        self.tell(f"{self.crate}: {len(self.results)} told by the prover")
+        return [m for m in batch if not found[m.name]]
+
+
+def prove(tree, crate, mutants, tell):
+    """Checks the mutants of a crate; name to verdict and the words that tell. One mutant of each function is checked at once; what a
+    function calls is known by its contract alone. Those that wait for a refused function are checked again without it."""
+    proving = Proving(tree, crate, tell)
+    waiting = [m for batch in batches(mutants, one_function(tree)) for m in proving.check(batch)]
+    for batch in batches(waiting, no_calls(tree)):
+        if proving.check(batch):
+            raise Trouble(f"a mutant waits for one that it does not call: {proving.copy.logs}")
+    return proving.results

@@ -1,5 +1,6 @@
 """Reads Rattle source: tokens, and of each file its functions, enums, constants and imports. No more of the language than the
 crates here use."""
+import hashlib
 import pathlib
 import re
 
@@ -18,6 +19,14 @@ OPEN = {"(": ")", "[": "]", "{": "}"}
 
 class Trouble(Exception):
     """What ends a run without a result."""
+
+
+def digest_of(places):
+    """A sum of the files, and of all files below the folders, with their names."""
+    found = hashlib.sha256()
+    for file in (p for place in places for p in [place, *sorted(place.rglob("*"))] if p.is_file()):
+        found.update(str(file.relative_to(root)).encode() + b"\0" + file.read_bytes())
+    return found.hexdigest()
 
 
 class Token:

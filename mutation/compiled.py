@@ -244,7 +244,7 @@ def by_exports(kinds):
         Program("compare", [*compare, "--kinds", ",".join(["leaves", "vectors", *kinds])], 60),
         Program("compare", [*compare, "--kinds", "cases,panics"], 30),
         Program("c_test", [HOME / "driver/c_test"], 30),
-        Program("fuzz", [HOME / "driver/fuzz", "--seed", "1"], 90),
+        Program("fuzz", [HOME / "driver/fuzz", "--seed", "2", "--rounds", "60000", "--thin", "10"], 30),
     ]
 
 

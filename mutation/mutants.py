@@ -153,6 +153,8 @@ class Body:
         sign = self.tokens[at].text
         near = self.tokens[at - 1].text == ")" and self.tokens[at + 1].text == "("
         new = COMPARISONS.get(sign, [])[: 1 if near else 2]
+        if sign == "==" and self.tokens[at + 1].text == "0":
+            new = ["!="]  # up to 0 is 0
         return [self.edit("comparison", at, at, other) for other in new if self.can_follow(at, other)]
 
     def can_follow(self, at, sign):
@@ -242,7 +244,7 @@ class Body:
         others = []
         for other in self.tree.functions.values():
             if named:
-                seen = other.file is self.file and not other.owner or self.file.imports.get(other.name) == other.path.split("::")
+                seen = other.path == "::".join(self.tree.full_path(self.file, None, [other.name]))
             else:
                 seen = other.file is found.file and other.owner == found.owner and (other.public or other.file.crate == self.file.crate)
             if seen and other.signature == found.signature and other.path not in (found.path, here):

@@ -24,6 +24,14 @@ def kept(crate):
     return json.loads(file.read_text(encoding="utf-8")) if file.exists() else None
 
 
+def still_good(crate):
+    """The results that are kept of the crate as it stands, by name, and the seconds that they took."""
+    said = kept(crate)
+    if not said or said["digest"] != digest(crate):
+        return {}, 0
+    return {r["name"]: r for r in said["mutants"]}, said["seconds"]
+
+
 def listed():
     """The mutants that equivalent.txt lists: name to old line, new line and argument."""
     found = {}

@@ -212,7 +212,8 @@ class Tree:
         if first == "crate":
             return [file.crate, *rest]
         if first in file.imports:
-            return [*file.imports[first], *rest]
+            whole = [*file.imports[first], *rest]
+            return [file.crate, *whole] if (file.crate, whole[0]) in self.modules else whole
         if first in self.crates and rest:
             return path
         return [*file.path, *path]

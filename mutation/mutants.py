@@ -1,4 +1,5 @@
 """The changes: small edits of the bodies of functions. Contracts, ghost lines, comments and declarations are never touched."""
+import ast
 import hashlib
 import random
 import re
@@ -177,8 +178,8 @@ class Body:
         if token.kind != "number" or self.tokens[at - 1].text == ".":
             return []
         if token.text.startswith("b'"):
-            code = ord(eval(token.text))
-            return [self.edit("constant", at, at, repr(bytes([code + step])).replace('"', "'")) for step in (1, -1)]
+            code = ast.literal_eval(token.text)[0]
+            return [self.edit("constant", at, at, byte_literal(code + step)) for step in (1, -1)]
         digits, suffix = re.match(r"(0x[0-9a-fA-F]+|[\d_]+)(.*)", token.text).groups()
         value = int(digits.replace("_", ""), 0)
         kind = "neighbouring byte" if self.is_place(at) else "constant"
@@ -294,6 +295,11 @@ class Body:
         if self.tokens[stop].text != ";" or self.tokens[at - 1].text == "=>":
             return []
         return [self.edit("statement left out", at, stop, "")]
+
+
+def byte_literal(code):
+    plain = 32 <= code < 127 and chr(code) not in "'\\"
+    return f"b'{chr(code)}'" if plain else f"b'\\x{code:02x}'"
 
 
 def numbered(found):

@@ -12,8 +12,8 @@ WORK = root / "target/mutation"
 class Copy:
     """A copy of the crates in which one of them is changed. The libraries that it stands on are the tree's own, proved ones."""
 
-    def __init__(self, crate):
-        self.crate, self.place = crate, WORK / "check" / crate
+    def __init__(self, crate, folder):
+        self.crate, self.place = crate, WORK / folder / crate
         shutil.rmtree(self.place, ignore_errors=True)
         self.place.mkdir(parents=True)
         shutil.copytree(root / "crates", self.place / "crates", ignore=shutil.ignore_patterns("must-fail", "stdin", "stdout"))
@@ -21,7 +21,7 @@ class Copy:
         (self.place / "target").mkdir()
         for part in ("rlib", "stamp"):
             (self.place / "target" / part).symlink_to(root / "target" / part)
-        self.logs = WORK / "logs" / crate
+        self.logs = WORK / f"{folder}.logs" / crate
         shutil.rmtree(self.logs, ignore_errors=True)
         self.logs.mkdir(parents=True)
 
@@ -126,9 +126,9 @@ def verdict(said, mutant):
 class Proving:
     """The checks of a crate's mutants."""
 
-    def __init__(self, tree, crate, tell):
+    def __init__(self, tree, crate, folder, tell):
         self.tree, self.crate, self.tell = tree, crate, tell
-        self.copy, self.results, self.number = Copy(crate), {}, 0
+        self.copy, self.results, self.number = Copy(crate, folder), {}, 0
         if "\nlogic=proved" not in self.copy.check("unchanged"):
             raise Trouble(f"{crate} is not proved as it stands: {self.copy.logs}/unchanged.log")
 
@@ -151,10 +151,11 @@ class Proving:
         return [m for m in batch if not found[m.name]]
 
 
-def prove(tree, crate, mutants, tell):
-    """Checks the mutants of a crate; name to verdict and the words that tell. One mutant of each function is checked at once; what a
-    function calls is known by its contract alone. Those that wait for a refused function are checked again without it."""
-    proving = Proving(tree, crate, tell)
+def prove(tree, crate, mutants, folder, tell):
+    """Checks the mutants of a crate, in a copy in the folder; name to verdict and the words that tell. One mutant of each function is
+    checked at once; what a function calls is known by its contract alone. Those that wait for a refused function are checked again
+    without it."""
+    proving = Proving(tree, crate, folder, tell)
     waiting = [m for batch in batches(mutants, one_function(tree)) for m in proving.check(batch)]
     for batch in batches(waiting, no_calls(tree)):
         if proving.check(batch):

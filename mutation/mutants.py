@@ -247,7 +247,7 @@ class Body:
             if named:
                 seen = other.path == "::".join(self.tree.full_path(self.file, None, [other.name]))
             else:
-                seen = other.file is found.file and other.owner == found.owner and (other.public or other.file.crate == self.file.crate)
+                seen = other.file is found.file and other.owner == found.owner and (other.public or other.file is self.file)
             if seen and other.signature == found.signature and other.path not in (found.path, here):
                 if here not in self.tree.reaches(other):
                     others.append(other)

@@ -99,7 +99,7 @@ A mutant's name is its function's path and a sum of its two lines, so that it st
 
 Each mutant is put into a copy of the crates, and its crate is checked there by `rt dev`. One mutant of each function is checked at once: a function's proof knows the functions that it calls by their contracts alone, so that none of these mutants changes what is said of another. One that only waits for a refused function that it calls is checked again without it. The log then tells (`mutation/logs.py`, which `.ci/refused` uses too):
 
-- **A fact**: the function is refused, an error in its own proof names a fact that does not hold, and none says that the proof does not fit. Three forms name one: `omega` shows numbers at which the goal fails ("the goal does not follow from what it read. All of that holds, and the goal fails, at .."); two propositions that have to be one differ ("the two types ..", "expected type .. but this has type .."); the two ends of a path do ("must be a path whose two ends are equal"). Errors that only wait for another are passed over ("was not admitted .., so this cannot be checked").
+- **A fact**: the function is refused, an error in its own proof names a fact that does not hold, and none says that the proof does not fit. Three forms name one: `omega` shows numbers at which the goal fails ("the goal does not follow from what it read. All of that holds, and the goal fails, at .."); two propositions that have to be one differ ("the two types ..", "expected type .. but this has type .."); the two ends of a path do ("must be a path whose two ends are equal"). Errors that only wait for another are passed over ("was not admitted .., so this cannot be checked"). The fact is one that the proof states of the code; that the code then computes something else is likely and is not shown.
 - **Unfit**: the function is refused for anything else. The proof names what the code has no more ("that can be named from here", "has no field", or an expected type that is a need's, `tie.Need-..`), a rewriting finds nothing to rewrite, or `search` finds no proof, in a proof or of a function that has no proof file. None of this shows that a fact fails, so the mutant is run.
 - **Accepted**: the function is proved. The mutant is run too: if a run told it from the Rust, a contract would be too weak.
 - **No code**: the compiler rejects the edit. It is left out of all other counts.
@@ -121,12 +121,12 @@ Rattle's toolchain compiles only what is proved. But its text without contracts 
 ## Running it
 
     mutation/run                        # all crates, two at a time
-    mutation/run --crate tx_queue       # one crate; its results replace the kept ones
+    mutation/run --crate tx_queue       # one crate, or several by several such words
     mutation/run --only NAME            # one mutant, and what is said of it
     mutation/run --sample               # {sample} mutants of small crates, for the gate
     mutation/run --write-docs           # this document, from target/mutation/
 
-It needs what `.ci/run` needs. The crates' times above add up to {minutes} minutes, which two cores share{beside}. It exits with 1 if a mutant is accepted or survives and `mutation/equivalent.txt` does not list it, if one that is listed is refused, told by a run or gone, or if the prover accepts what a run tells.
+It needs what `.ci/run` needs, with the Rust source. Results of a crate that has not changed are used again, unless `--anew` is said. The seconds above are those of the run that made this document, two crates at a time on two cores that had other work too; together they are {minutes} minutes. It exits with 1 if a mutant is accepted or survives and `mutation/equivalent.txt` does not list it, if one that is listed is refused, told by a run or gone, or if the prover accepts what a run tells.
 """
 
 EXAMPLES = {
@@ -207,7 +207,6 @@ def write(mutation, sample):
             equivalent=equivalent_text(),
             sample=sample,
             minutes=round(sum(said["seconds"] for said in per_crate.values()) / 60),
-            beside="",
         ),
         encoding="utf-8",
     )

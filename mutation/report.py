@@ -13,9 +13,9 @@ def digest(crate):
     return digest_of([root / "crates" / crate / part for part in ("src", "specs", "proofs")])
 
 
-def keep(crate, seed, results, seconds):
+def keep(crate, results, seconds):
     WORK.mkdir(parents=True, exist_ok=True)
-    said = {"digest": digest(crate), "seed": seed, "seconds": seconds, "mutants": results}
+    said = {"digest": digest(crate), "seconds": seconds, "mutants": results}
     (WORK / f"{crate}.json").write_text(json.dumps(said, indent=1, ensure_ascii=False), encoding="utf-8")
 
 
@@ -54,12 +54,9 @@ def counted(result):
     return verdict
 
 
-def faults(crate, results, names):
-    """What does not hold of a crate's results; `names` are the mutants that are to be there, or None for any."""
+def faults(crate, results, complete):
+    """What does not hold of a crate's results; `complete` where they are of all its mutants."""
     known, found = listed(), []
-    there = {r["name"]: r for r in results}
-    if names is not None and set(names) != set(there):
-        found.append(f"{crate}: the results are of other mutants")
     for result in results:
         name, as_what = result["name"], counted(result)
         if as_what == "accepted and caught":
@@ -70,8 +67,9 @@ def faults(crate, results, names):
             found.append(f"{name}: equivalent.txt has other lines for it")
         elif as_what not in ("equivalent", "survived") and name in known:
             found.append(f"{name}: listed as equivalent, and it is not: {as_what}")
-    if names is not None:
-        found += [f"{n}: listed as equivalent, and no mutant" for n in known if n.split("::")[0] == crate and n not in there]
+    if complete:
+        there = {r["name"] for r in results}
+        found += [f"{name}: listed as equivalent, and no mutant" for name in known if name.split("::")[0] == crate and name not in there]
     return found
 
 
@@ -191,11 +189,15 @@ def write(mutation, sample):
     crates = mutation.crates()
     per_crate = {crate: kept(crate) for crate in crates}
     found = [f"{crate}: no results are kept" for crate, said in per_crate.items() if not said]
-    found += [f"{crate}: it has changed since its results were made" for crate, said in per_crate.items() if said and said["digest"] != digest(crate)]
+    for crate, said in per_crate.items():
+        if said and set(r["name"] for r in said["mutants"]) != set(m.name for m in mutation.chosen(crate)):
+            found.append(f"{crate}: its code has changed since its results were made")
+        elif said and said["digest"] != digest(crate):
+            print(f"{crate}: its definitions, contracts or proofs have changed since its results were made; its code has not")
     if found:
         return found
     for crate, said in per_crate.items():
-        found += faults(crate, said["mutants"], [m.name for m in mutation.chosen(crate)])
+        found += faults(crate, said["mutants"], True)
     results = [r for said in per_crate.values() for r in said["mutants"]]
     standing = [r for r in results if r["verdict"] != "no code"]
     DOCUMENT.write_text(

@@ -1,283 +1,249 @@
 /*
- * bench: how long the calls take that test a state first, as ratios to one plain
- * pass over the same bytes, a load for each, in the same run.
- *
- * Each figure is the least of some repetitions, of which each makes the call on
- * fresh copies of one whole state.
+ * bench FILE [quick]: what each exported call costs, as a table for people and, in the
+ * file, as lines of fields that tabs part.
  */
-#define _POSIX_C_SOURCE 199309L /* clock_gettime */
-
-#include <stdbool.h>
 #include <stdio.h>
 #include <string.h>
-#include <time.h>
 
 #include "bench.h"
-#include "state_iq.h"
-#include "state_reg.h"
 
-enum { COPIES = 16, REPETITIONS = 200 };
+static FILE *fields;
 
 /* ------------------------------------------------------------------------ */
-/* Time                                                                     */
+/* Lines                                                                    */
 /* ------------------------------------------------------------------------ */
 
-double now(void)
-{
-    struct timespec time;
-    clock_gettime(CLOCK_MONOTONIC, &time);
-    return 1e9 * (double)time.tv_sec + (double)time.tv_nsec;
-}
-
-/* Keeps what is measured from being left out. */
-static volatile uint64_t sink;
-
-/* One pass: the build keeps the compiler from taking several bytes at once. */
-static gomxeli_answer pass(uint8_t *state, size_t len, const uint32_t *n)
-{
-    uint64_t sum = 0;
-    (void)n;
-    for (size_t i = 0; i < len; i++)
-        sum += state[i];
-    return sum;
-}
-
-double time_of(call_function *call, const struct state *state, const uint32_t *n)
-{
-    static uint8_t copies[COPIES][MOST_BYTES];
-    double least = 1e18;
-    for (unsigned r = 0; r < REPETITIONS; r++) {
-        for (unsigned i = 0; i < COPIES; i++)
-            memcpy(copies[i], state->byte, state->len);
-        double start = now();
-        for (unsigned i = 0; i < COPIES; i++)
-            sink += call(copies[i], state->len, n);
-        double time = (now() - start) / COPIES;
-        least = time < least ? time : least;
-    }
-    return least;
-}
-
-double pass_time_of(const struct state *state)
-{
-    return time_of(pass, state, NULL);
-}
-
-/* ------------------------------------------------------------------------ */
-/* Registries                                                               */
-/* ------------------------------------------------------------------------ */
-
-enum { ENTRIES = REGISTRY_ENTRIES };
-
-unsigned nth_entry(unsigned i)
-{
-    return i * 37 % ENTRIES;
-}
-
-/* The subjects are 10, 30, 50, .. or all 10. */
-static unsigned nth_subject(unsigned i, bool distinct)
-{
-    return distinct ? 10 + 20 * i : 10;
-}
-
-static void activate(struct registry *registry, unsigned i, bool distinct, bool marked)
-{
-    tree_insert(&registry->active, nth_entry(i), nth_subject(i, distinct));
-    if (marked)
-        list_push_back(&registry->queues.list[CLEAN_UP_CLASS], nth_entry(i));
-}
-
-static void wait_for(struct registry *registry, unsigned i, bool distinct)
-{
-    tree_insert(&registry->inactive, nth_entry(i), nth_subject(i, distinct));
-    list_push_back(&registry->queues.list[ACTIVATION_CLASS], nth_entry(i));
-}
-
-static void all_active(struct registry *registry, unsigned count)
-{
-    for (unsigned i = 0; i < count; i++)
-        activate(registry, i, true, false);
-}
-
-static void all_on_one_subject(struct registry *registry, unsigned count)
-{
-    for (unsigned i = 0; i < count; i++)
-        activate(registry, i, false, false);
-}
-
-static void all_waiting(struct registry *registry, unsigned count)
-{
-    for (unsigned i = 0; i < count; i++)
-        wait_for(registry, i, true);
-}
-
-static void all_marked(struct registry *registry, unsigned count)
-{
-    for (unsigned i = 0; i < count; i++)
-        activate(registry, i, true, true);
-}
-
-static void half_and_half(struct registry *registry, unsigned count)
-{
-    for (unsigned i = 0; i < count; i++) {
-        if (i % 2 == 0)
-            activate(registry, i, true, i % 4 == 0);
-        else
-            wait_for(registry, i, true);
-    }
-}
-
-/* A poll makes all of them active, by as many inner steps, and finds nothing. */
-static void waiting_on_active(struct registry *registry, unsigned count)
-{
-    for (unsigned i = 0; i < count; i++) {
-        if (i == 0)
-            activate(registry, i, false, false);
-        else
-            wait_for(registry, i, false);
-    }
-}
-
-/*
- * The same with half of them active on subjects of their own, and one waiting on each,
- * the last subject first.
- */
-static void waiting_on_each(struct registry *registry, unsigned count)
-{
-    for (unsigned i = 0; i < count / 2; i++)
-        activate(registry, i, true, false);
-    for (unsigned i = count / 2; i < count; i++) {
-        tree_insert(&registry->inactive, nth_entry(i), nth_subject(count - 1 - i, true));
-        list_push_back(&registry->queues.list[ACTIVATION_CLASS], nth_entry(i));
-    }
-}
-
-static const struct {
-    const char *name;
-    void (*build)(struct registry *registry, unsigned count);
-} shapes[] = {
-    {"all active", all_active},       {"all on one subject", all_on_one_subject},
-    {"all waiting", all_waiting},     {"all marked", all_marked},
-    {"half and half", half_and_half}, {"waiting on an active subject", waiting_on_active},
-    {"waiting on each of half", waiting_on_each},
+/* What a line's figures are of. */
+struct measured {
+    const char *kind;
+    const char *call;
+    const char *in; /* "usual" or "worst" */
+    unsigned entries;
+    const char *shape; /* NULL: no state */
+    const char *place; /* what the call aims at */
+    struct figures figures;
 };
 
-enum { SHAPES = sizeof shapes / sizeof shapes[0] };
-
-static void build(unsigned shape, unsigned count, struct state *state)
+static double passes_of(struct figures f)
 {
-    static struct registry registry;
-    registry_clear(&registry, 9);
-    shapes[shape].build(&registry, count);
-    if (registry.active.count > 0)
-        registry.walk = registry.active.at[registry.active.count - 1].entry;
-    state->len = GOMXELI_REG_LENGTH;
-    memset(state->byte, 0, state->len);
-    registry_lay(&registry, state->byte);
+    return f.call / f.pass;
 }
 
-/* The figure of a call, as a ratio to the pass. */
-static void print_ratio(call_function *call, const struct state *state, uint32_t first,
-                        uint32_t second, double pass_time)
+/* A number, or a dash where there is none. */
+static void print_number(int width, int digits, double number, bool is_there)
 {
-    const uint32_t n[MOST_NUMBERS] = {first, second};
-    printf("%11.2f", time_of(call, state, n) / pass_time);
+    if (is_there)
+        printf("%*.*f", width, digits, number);
+    else
+        printf("%*s", width, "-");
 }
 
-/*
- * The test alone: removing entry 128, which is refused for that. The others are
- * accepted where they can be, and have the longest way: an entry is registered
- * before all others, as the last that there is room for; the first place is removed;
- * the walk starts at the last subject and goes on from the last entry.
- */
-static void bench_registry(unsigned shape, unsigned count)
+static void print_figures(const struct figures *f, int digits)
 {
-    static struct state state, with_room;
-    build(shape, count, &state);
-    build(shape, count < ENTRIES ? count : ENTRIES - 1, &with_room);
-    unsigned new_entry = nth_entry(count < ENTRIES ? count : ENTRIES - 1);
-    unsigned last_subject = nth_subject(count > 0 ? count - 1 : 0, true);
-    double time = pass_time_of(&state);
-    printf("%-30s%4u%8.0f", shapes[shape].name, count, time);
-    print_ratio(reg_unregister, &state, ENTRIES, 0, time);
-    print_ratio(reg_register, &with_room, new_entry, 5, time);
-    print_ratio(reg_unregister, &state, nth_entry(0), 0, time);
-    print_ratio(reg_poll_pop, &state, 0, 0, time);
-    print_ratio(reg_hub_push_start, &state, last_subject, 0, time);
-    print_ratio(reg_hub_push_next, &state, 0, 0, time);
-    printf("\n");
+    print_number(9, digits, f->call, true);
+    print_number(8, 2, f->call / f->pass, f->pass > 0);
+    print_number(8, 1, f->call / f->rust, f->rust > 0);
 }
 
-static void bench_registries(void)
+static void print_state(FILE *to, const struct measured *m)
 {
-    static const unsigned counts[] = {0, 16, ENTRIES};
-    printf("%-30s%4s%8s%11s%11s%11s%11s%11s%11s\n", "regular reception, entries", "", "pass ns",
-           "test alone", "register", "unregister", "poll", "start", "next");
-    bench_registry(0, 0);
-    for (unsigned shape = 0; shape < SHAPES; shape++)
-        for (unsigned i = 1; i < sizeof counts / sizeof counts[0]; i++)
-            bench_registry(shape, counts[i]);
+    if (m->shape == NULL)
+        fprintf(to, "-");
+    else
+        fprintf(to, "%s%s%s", m->shape, m->place[0] != '\0' ? ", " : "", m->place);
+}
+
+static void write_number(double number, bool is_there)
+{
+    if (is_there)
+        fprintf(fields, "\t%.4g", number);
+    else
+        fprintf(fields, "\t-");
+}
+
+static void write_fields(const struct measured *m)
+{
+    const struct figures *f = &m->figures;
+    fprintf(fields, "%s\t%s\t%s\t%u\t", m->kind, m->call, m->in, m->entries);
+    print_state(fields, m);
+    write_number(f->call, true);
+    write_number(f->pass, f->pass > 0);
+    write_number(f->call / f->pass, f->pass > 0);
+    write_number(f->rust, f->rust > 0);
+    write_number(f->call / f->rust, f->rust > 0);
+    fprintf(fields, "\n");
+}
+
+static void write_heads(void)
+{
+    fprintf(fields, "kind\tcall\tin\tentries\tstate");
+    fprintf(fields, "\tns\tpass_ns\tpasses\trust_ns\trust_ratio\n");
 }
 
 /* ------------------------------------------------------------------------ */
-/* Lists and keys                                                           */
+/* What no call comes near to, however slow the machine                     */
 /* ------------------------------------------------------------------------ */
 
-/* One call of a kind, which tests the whole state and does little more. */
-static void print_row(const char *kind, const char *what, unsigned count, const struct state *state,
-                      call_function *call)
+enum { ABSURD_PASSES = 100, ABSURD_NS = 1000 };
+
+static bool was_absurd;
+
+static void look_for_absurd(const struct measured *m)
 {
-    double time = pass_time_of(state);
-    printf("%-10s%-20s%4u%8.0f", kind, what, count, time);
-    print_ratio(call, state, 0, 0, time);
-    printf("\n");
+    const struct figures *f = &m->figures;
+    if (f->call <= (m->shape != NULL ? ABSURD_PASSES * f->pass : ABSURD_NS))
+        return;
+    fprintf(stderr, "bench: %s takes absurdly long: %.0f ns\n", m->call, f->call);
+    was_absurd = true;
 }
 
-static void bench_lists(unsigned classes, unsigned entries)
+/* ------------------------------------------------------------------------ */
+/* Calls with state                                                         */
+/* ------------------------------------------------------------------------ */
+
+static const char *place_name(const struct call *call, enum place place)
 {
-    static struct lists lists;
-    static struct state state;
-    state.len = gomxeli_mcq_length(classes, entries);
-    lists_clear(&lists, classes, entries);
-    lists_lay(&lists, state.byte);
-    print_row("lists", "all lone", entries, &state, mcq_is_empty);
-    for (unsigned i = 0; i < entries; i++)
-        list_push_back(&lists.list[i % classes], entries - 1 - i);
-    lists_lay(&lists, state.byte);
-    print_row("lists", "all in classes", entries, &state, mcq_is_empty);
+    static const char *const no_choice[PLACES] = {[MIDDLE] = ""};
+    return (call->places != NULL ? call->places : no_choice)[place];
 }
 
-static void bench_keys(unsigned k_max, unsigned entries)
+/* The one that is measured. */
+static struct row row;
+
+/* A state and what a call aims at there. */
+struct aim {
+    const struct shape *shape;
+    enum place place;
+};
+
+static struct measured measure(const char *in, unsigned entries)
 {
-    static struct keys keys;
-    static struct state state;
-    state.len = gomxeli_iq_length(k_max, entries);
-    memset(state.byte, 255, state.len);
-    keys_clear(&keys, k_max, entries);
-    keys_lay(&keys, state.byte);
-    print_row("keys", "all free", entries, &state, iq_front);
-    lists_clear(&keys.lists, KEYS_CLASSES, entries);
-    for (unsigned i = 0; i < entries; i++) {
-        keys.entry[i] = (struct keyed){true, false, (uint16_t)(k_max - i), i};
-        list_push_back(&keys.lists.list[QUEUE_CLASS], i);
+    struct measured m = {
+        row.kind->name,  row.call->name, in,
+        entries,         row.shape->name, place_name(row.call, row.place),
+        time_row(&row),
+    };
+    return m;
+}
+
+static struct measured measure_usual(const struct kind *kind, const struct call *call,
+                                     unsigned count)
+{
+    row_make(&row, kind, call, &kind->shapes[0], MIDDLE, count);
+    return measure("usual", count);
+}
+
+/* Of all shapes and places; of nearly equal ones the first. */
+static struct measured measure_worst(const struct kind *kind, const struct call *call,
+                                     unsigned count)
+{
+    struct aim worst = {NULL, MIDDLE};
+    double most = 0;
+    for (const struct shape *shape = kind->shapes; shape->name != NULL; shape++) {
+        for (enum place place = FIRST; place < PLACES; place++) {
+            if (place_name(call, place) == NULL)
+                continue;
+            row_make(&row, kind, call, shape, place, count);
+            double passes = passes_of(try_row(&row));
+            if (passes > 1.05 * most) {
+                most = passes;
+                worst = (struct aim){shape, place};
+            }
+        }
     }
-    keys_lay(&keys, state.byte);
-    print_row("keys", "all queued", entries, &state, iq_front);
+    row_make(&row, kind, call, worst.shape, worst.place, count);
+    return measure("worst", count);
 }
 
-int main(void)
+/* The usual state is the worst where no other takes longer. */
+static void bench_call(const struct kind *kind, const struct call *call, unsigned count)
 {
-    bench_registries();
-    bench_trees();
-    bench_transmission();
-    printf("%-30s%4s%8s%11s\n", "queues, entries", "", "pass ns", "test alone");
-    bench_lists(2, 0);
-    bench_lists(2, 16);
-    bench_lists(2, 128);
-    bench_lists(32, 224);
-    bench_keys(15, 16);
-    bench_keys(255, 128);
-    bench_keys(GOMXELI_IQ_KEY_MAX, GOMXELI_IQ_ENTRIES_MAX);
-    bench_runs();
-    return 0;
+    struct measured usual = measure_usual(kind, call, count);
+    struct measured worst = measure_worst(kind, call, count);
+    if (passes_of(worst.figures) < passes_of(usual.figures))
+        worst = usual;
+    worst.in = "worst";
+    printf("%-32s%4u", call->name, count);
+    print_figures(&usual.figures, 0);
+    print_figures(&worst.figures, 0);
+    printf("   ");
+    print_state(stdout, &worst);
+    printf("\n");
+    write_fields(&usual);
+    write_fields(&worst);
+    look_for_absurd(&worst);
+}
+
+static void bench_counts(const struct kind *kind, const struct call *call)
+{
+    const unsigned *count = kind->counts;
+    bench_call(kind, call, *count);
+    while (*count != kind->entries)
+        bench_call(kind, call, *++count);
+}
+
+static void bench_kind(const struct kind *kind)
+{
+    printf("\n%s\n%-36s%9s%8s%8s%9s%8s%8s   worst state\n", kind->title, "call, entries",
+           "usual ns", "passes", "/ Rust", "worst ns", "passes", "/ Rust");
+    for (const struct call *call = kind->calls; call->name != NULL; call++)
+        bench_counts(kind, call);
+}
+
+/* ------------------------------------------------------------------------ */
+/* Calls without state                                                      */
+/* ------------------------------------------------------------------------ */
+
+static void bench_leaf(const struct leaf *leaf)
+{
+    struct measured m = {"leaves", leaf->name, "usual", 0, NULL, NULL, time_leaf(leaf)};
+    printf("%-36s", leaf->name);
+    print_figures(&m.figures, 1);
+    printf("\n");
+    write_fields(&m);
+    look_for_absurd(&m);
+}
+
+static void bench_leaves(void)
+{
+    printf("\nwithout state\n%-36s%9s%8s%8s\n", "call", "ns", "passes", "/ Rust");
+    for (const struct leaf *leaf = leaves; leaf->name != NULL; leaf++)
+        bench_leaf(leaf);
+}
+
+/* ------------------------------------------------------------------------ */
+/* All                                                                      */
+/* ------------------------------------------------------------------------ */
+
+static const struct kind *const kinds[] = {
+    &reg_kind,         &lb_kind, &req_kind,        &txm_kind, &txr_kind, &mcq_kind,
+    &mcq_largest_kind, &iq_kind, &iq_largest_kind, &img_kind,
+};
+
+static void bench_all(void)
+{
+    write_heads();
+    for (unsigned i = 0; i < sizeof kinds / sizeof kinds[0]; i++)
+        bench_kind(kinds[i]);
+    bench_leaves();
+}
+
+int main(int argc, char **argv)
+{
+    is_quick = argc == 3 && strcmp(argv[2], "quick") == 0;
+    if (argc != (is_quick ? 3 : 2)) {
+        fprintf(stderr, "usage: bench FILE [quick]\n");
+        return 2;
+    }
+    fields = fopen(argv[1], "w");
+    if (fields == NULL) {
+        perror(argv[1]);
+        return 1;
+    }
+    bench_all();
+    if (fclose(fields) != 0) {
+        perror(argv[1]);
+        return 1;
+    }
+    return was_absurd;
 }

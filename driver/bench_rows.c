@@ -1,77 +1,199 @@
+/* Rows: a call, the states that it is made in, and what it is given there. */
 #include <stdio.h>
+#include <stdlib.h>
+#include <string.h>
 
 #include "bench.h"
+#include "random.h"
 #include "state_tree.h"
 
-enum { ENTRIES = REGISTRY_ENTRIES };
+bool is_quick;
 
-void entry_past(const struct aim *aim, uint32_t *n)
+const unsigned registry_counts[] = {0, 16, REGISTRY_ENTRIES};
+
+unsigned nth_entry(unsigned i)
 {
-    (void)aim;
-    n[0] = ENTRIES;
+    return i * 37 % REGISTRY_ENTRIES;
 }
 
-void entry_there(const struct aim *aim, uint32_t *n)
+const char *const three_places[PLACES] = {"first", "middle", "last", NULL};
+
+unsigned index_of(enum place place, unsigned count)
 {
-    n[0] = nth_entry(aim->place);
+    return place == FIRST ? 0 : place == LAST ? count - 1 : count / 2;
 }
 
-static double time_at(const struct rows *rows, const struct column *column, const struct aim *aim)
-{
-    static struct state state;
-    uint32_t n[MOST_NUMBERS] = {0};
-    struct aim aimed = *aim;
-    if (column->needs_room && aimed.count == ENTRIES)
-        aimed.count--;
-    if (aimed.place > 0 && aimed.place == aimed.count)
-        aimed.place--;
-    aimed.picked = column->picked;
-    rows->build(&aimed, &state);
-    column->number(&aimed, n);
-    return time_of(column->call, &state, n);
-}
+/* ------------------------------------------------------------------------ */
+/* Scripts                                                                  */
+/* ------------------------------------------------------------------------ */
 
-/* The longest of both ends, with the entries apart and, if so, all in one. */
-static double worst_time(const struct rows *rows, const struct column *column, unsigned count)
+void script_add(struct script *script, const char *name, call_function *call, const uint32_t *n)
 {
-    double worst = 0;
-    for (unsigned i = 0; i < (rows->shares ? 4 : 2); i++) {
-        const struct aim aim = {count, i < 2 ? rows->stride : 0, i % 2 == 0 ? 0 : count - 1, false};
-        double time = time_at(rows, column, &aim);
-        worst = time > worst ? time : worst;
+    if (script->count == MOST_STEPS) {
+        fprintf(stderr, "bench: too many steps\n");
+        exit(1);
     }
-    return worst;
+    struct step *step = &script->step[script->count++];
+    step->name = name;
+    step->call = call;
+    memcpy(step->n, n, sizeof step->n);
 }
 
-/* In the middle of entries that are apart. */
-static double usual_time(const struct rows *rows, const struct column *column, unsigned count)
+/* A step that is refused leads elsewhere. */
+static void must_be_accepted(const struct row *row, const char *name, gomxeli_answer answer)
 {
-    const struct aim aim = {count, rows->stride, count / 2, false};
-    return time_at(rows, column, &aim);
+    if (gomxeli_number(answer) == GOMXELI_ACCEPTED)
+        return;
+    fprintf(stderr, "bench: %s, %s: %s is refused with %u\n", row->call->name, row->shape->name,
+            name, gomxeli_number(answer));
+    exit(1);
 }
 
-static void print_row(const struct rows *rows, const char *name, unsigned count,
-                      double (*time)(const struct rows *, const struct column *, unsigned))
+static void play(const struct row *row, const struct script *script, struct state *state)
+{
+    for (unsigned i = 0; i < script->count; i++) {
+        const struct step *step = &script->step[i];
+        must_be_accepted(row, step->name, step->call(state->byte, state->len, step->n));
+    }
+}
+
+/* The number of a variant is its seed. */
+static void build(const struct row *row, unsigned variant, struct script *script)
+{
+    script->kind = row->kind;
+    script->count = 0;
+    seed_random(variant);
+    if (row->shape->build != NULL)
+        row->shape->build(row->entries, script);
+}
+
+/* ------------------------------------------------------------------------ */
+/* Variants                                                                 */
+/* ------------------------------------------------------------------------ */
+
+static unsigned variants_of(const struct kind *kind, const struct shape *shape)
+{
+    unsigned most = is_quick ? MOST_VARIANTS / 16 : MOST_VARIANTS;
+    unsigned fit = (unsigned)(VARIANTS_BYTES / kind->len);
+    return !shape->is_drawn ? 1 : fit < most ? fit : most;
+}
+
+static void store(const struct row *row, unsigned variant, const struct state *state,
+                  struct bytes *bytes)
+{
+    memcpy(bytes->byte + variant * row->kind->len, state->byte, state->len);
+}
+
+static void load(const struct row *row, unsigned variant, const struct bytes *bytes,
+                 struct state *state)
+{
+    state->len = row->kind->len;
+    memcpy(state->byte, bytes->byte + variant * state->len, state->len);
+}
+
+static void build_variant(const struct row *row, unsigned variant, struct bytes *bytes)
 {
     static struct state state;
-    const struct aim aim = {count, rows->stride, 0, false};
-    rows->build(&aim, &state);
-    double pass_time = pass_time_of(&state);
-    printf("%-30s%4u%8.0f", name, count, pass_time);
-    for (unsigned i = 0; i < MOST_COLUMNS && rows->columns[i].title != NULL; i++)
-        printf("%11.2f", time(rows, &rows->columns[i], count) / pass_time);
-    printf("\n");
+    static struct script script;
+    const struct kind *kind = row->kind;
+    state.len = kind->len;
+    memset(state.byte, 0, state.len);
+    must_be_accepted(row, "opening", kind->open(state.byte, state.len, kind->opening));
+    if (row->shape->lay != NULL)
+        row->shape->lay(row->entries, &state);
+    build(row, variant, &script);
+    play(row, &script, &state);
+    store(row, variant, &state, bytes);
 }
 
-void bench_rows(const struct rows *rows)
+/* Those that were drawn last are kept: two shapes at the counts of a kind, and with room. */
+static struct kept {
+    const struct shape *shape;
+    size_t len;
+    unsigned entries;
+    struct bytes bytes;
+} kept[9];
+
+enum { KEPT = sizeof kept / sizeof kept[0] };
+
+static bool is_kept(const struct kept *kept, const struct row *row)
 {
-    printf("%-30s%4s%8s", rows->title, "", "pass ns");
-    for (unsigned i = 0; i < MOST_COLUMNS && rows->columns[i].title != NULL; i++)
-        printf("%11s", rows->columns[i].title);
-    printf("\n");
-    print_row(rows, "none", 0, usual_time);
-    print_row(rows, "usual", 16, usual_time);
-    print_row(rows, "worst", 16, worst_time);
-    print_row(rows, "usual", ENTRIES, usual_time);
-    print_row(rows, "worst", ENTRIES, worst_time);
+    return kept->shape == row->shape && kept->len == row->kind->len &&
+           kept->entries == row->entries;
+}
+
+static void build_kept(const struct row *row, struct kept *kept)
+{
+    kept->shape = row->shape;
+    kept->len = row->kind->len;
+    kept->entries = row->entries;
+    for (unsigned i = 0; i < row->variants; i++)
+        build_variant(row, i, &kept->bytes);
+}
+
+/* The first is for those that are not drawn. */
+static const struct bytes *built(const struct row *row)
+{
+    static unsigned oldest;
+    for (unsigned i = 0; i < KEPT; i++)
+        if (is_kept(&kept[i], row))
+            return &kept[i].bytes;
+    oldest = row->shape->is_drawn ? oldest % (KEPT - 1) + 1 : oldest;
+    struct kept *next = &kept[row->shape->is_drawn ? oldest : 0];
+    build_kept(row, next);
+    return &next->bytes;
+}
+
+static void prepare_variant(struct row *row, unsigned variant)
+{
+    static struct state state;
+    static struct script script;
+    const struct call *call = row->call;
+    load(row, variant, row->built, &state);
+    script.kind = row->kind;
+    script.count = 0;
+    if (call->prepare != NULL)
+        call->prepare(&state, row->place, &script);
+    play(row, &script, &state);
+    store(row, variant, &state, &row->ready);
+    memcpy(row->n[variant], row->kind->opening, sizeof row->n[variant]);
+    if (call->numbers != NULL)
+        call->numbers(&state, row->place, row->n[variant]);
+}
+
+/* ------------------------------------------------------------------------ */
+/* Rows                                                                     */
+/* ------------------------------------------------------------------------ */
+
+void row_make(struct row *row, const struct kind *kind, const struct call *call,
+              const struct shape *shape, enum place place, unsigned count)
+{
+    row->kind = kind;
+    row->call = call;
+    row->shape = shape;
+    row->place = place;
+    row->entries = call->needs_room && count == kind->entries ? count - 1 : count;
+    row->variants = variants_of(kind, shape);
+    row->built = built(row);
+    for (unsigned i = 0; i < row->variants; i++)
+        prepare_variant(row, i);
+}
+
+const uint8_t *row_bytes(const struct row *row, unsigned variant)
+{
+    return row->ready.byte + variant * row->kind->len;
+}
+
+void row_state(const struct row *row, unsigned variant, struct state *state)
+{
+    load(row, variant, &row->ready, state);
+}
+
+void row_script(const struct row *row, unsigned variant, struct script *script)
+{
+    static struct state state;
+    build(row, variant, script);
+    load(row, variant, row->built, &state);
+    if (row->call->prepare != NULL)
+        row->call->prepare(&state, row->place, script);
 }

@@ -146,6 +146,7 @@ void cut_all(struct state *state)
 
 int main(void)
 {
+    test_answers();
     test_leaves();
     test_reg();
     test_reg_whole();

@@ -11,6 +11,7 @@
 
 #include "calls.h"
 
+void test_answers(void);
 void test_leaves(void);
 void test_reg(void);
 void test_reg_whole(void);

@@ -156,9 +156,51 @@ static void test_tail_bytes(void)
     CHECK_NONE(gomxeli_is_eot_frame(&ends, 0));
 }
 
+/*
+ * The tail bytes of whole transfers, frame by frame, by the Cyphal Specification's rule: start of
+ * transfer on the first, end of transfer on the last, the toggle set on the first and turned over
+ * on each that follows, and one transfer identifier. The same rows as in oracle/src/vectors.rs.
+ */
+static const struct {
+    unsigned id, frames;
+    uint8_t tail[11];
+} transfers[] = {
+    {0, 1, {0xe0}},
+    {1, 1, {0xe1}},
+    {2, 1, {0xe2}},
+    {3, 1, {0xe3}},
+    {31, 1, {0xff}},
+    {0, 1, {0xe0}},
+    {0, 2, {0xa0, 0x40}},
+    {5, 3, {0xa5, 0x05, 0x65}},
+    {1, 11, {0xa1, 0x01, 0x21, 0x01, 0x21, 0x01, 0x21, 0x01, 0x21, 0x01, 0x61}},
+    {31, 4, {0xbf, 0x1f, 0x3f, 0x5f}},
+};
+
+/* A frame's tail byte is made of its parts and read back, and tells the end. */
+static void test_frame(uint8_t tail, bool sot, bool eot, bool toggle, unsigned id)
+{
+    const uint8_t frame[2] = {(uint8_t)~tail, tail};
+    CHECK_PARTS(gomxeli_tail_byte_new(sot, eot, toggle, (uint8_t)id), 0, 0, tail, 0);
+    CHECK_FLAG(gomxeli_tail_byte_sot(tail), sot);
+    CHECK_FLAG(gomxeli_tail_byte_eot(tail), eot);
+    CHECK_FLAG(gomxeli_tail_byte_toggle(tail), toggle);
+    CHECK_PARTS(gomxeli_tail_byte_transfer_id(tail), 0, 0, id, 0);
+    CHECK_FIRST(gomxeli_is_eot_frame(frame, sizeof frame), eot);
+}
+
+static void test_transfers(void)
+{
+    for (unsigned i = 0; i < sizeof transfers / sizeof transfers[0]; i++)
+        for (unsigned f = 0; f < transfers[i].frames; f++)
+            test_frame(transfers[i].tail[f], f == 0, f + 1 == transfers[i].frames, f % 2 == 0,
+                       transfers[i].id);
+}
+
 void test_leaves(void)
 {
     test_ids();
     test_priorities();
     test_tail_bytes();
+    test_transfers();
 }

@@ -1,10 +1,11 @@
 //! `LoopBackInner` against the exports `gomxeli_lb_..`.
 
+use crate::answer::{pushed, registered};
 use crate::exports::{self, Answer};
 use crate::image::MOST_SUBJECT;
 use crate::one_tree::{self, OneTree};
 use crate::pair::{Call, Op, Size, ops};
-use crate::registry::{ALL, ENDS, NEAR, ONE, Pools, SOME, THREE, pushed, registered};
+use crate::registry::{ALL, ENDS, NEAR, ONE, Pools, SOME, THREE};
 use crate::regular;
 use emcyphal::registry::probe::{LoopBack, Tree};
 

@@ -1,5 +1,6 @@
 //! Compares the exports of libgomxeli.a with the unchanged Rust, in one process.
 
+mod answer;
 mod bounds;
 mod cases;
 mod demand;
@@ -39,8 +40,8 @@ use tally::Tally;
 const USAGE: &str = "\
 compare [--seed N] [--calls N | --seconds N] [--kinds K,..]
     compares; K is leaves, vectors, cases, panics, mcq, iq, reg, lb, req, txm, txr, img (default: all);
-    N random calls in all (default 2000000), or as many as fit in N seconds, besides what is done over
-    all inputs
+    N random calls in all (default 2000000), or as many as fit in N seconds (a line a minute on stderr),
+    besides what is done over all inputs
 compare --panics        shows each sequence in which the Rust panics and ours does not
 compare --record DIR    writes DIR/stdin and DIR/stdout: calls, and the Rust's answers
 exit 0: no difference; 1: a difference, after the shortened calls that show it; 2: bad usage";
@@ -156,17 +157,42 @@ fn read_kinds(word: &str) -> Option<Vec<String>> {
     named.iter().all(known).then_some(named)
 }
 
+/// Says once a minute how far a long run is.
+struct Progress {
+    begun: Instant,
+    minutes: u64,
+}
+
+impl Progress {
+    fn begin() -> Self {
+        Progress {
+            begun: Instant::now(),
+            minutes: 0,
+        }
+    }
+
+    fn say(&mut self, tally: &Tally) {
+        let minutes = self.begun.elapsed().as_secs() / 60;
+        if minutes > self.minutes {
+            self.minutes = minutes;
+            eprintln!("compare: {minutes} min, {} checks", tally.checks());
+        }
+    }
+}
+
 /// Random calls at all sizes, by their shares, round by round.
 fn run_random(sizes: &[Size], options: &Options, tally: &mut Tally) -> Result<(), String> {
     const ROUND: u64 = 100_000;
     let mut rng = Rng::new(options.seed);
-    let begun = Instant::now();
+    let mut progress = Progress::begin();
     let shares: u64 = sizes.iter().map(|size| size.share).sum();
     let mut made = 0;
     loop {
         let round = match options.amount {
             Amount::Calls(calls) => ROUND.min(calls.saturating_sub(made)),
-            Amount::Seconds(seconds) if begun.elapsed() < Duration::from_secs(seconds) => ROUND,
+            Amount::Seconds(seconds) if progress.begun.elapsed() < Duration::from_secs(seconds) => {
+                ROUND
+            }
             Amount::Seconds(_) => 0,
         };
         if round == 0 || sizes.is_empty() {
@@ -177,6 +203,7 @@ fn run_random(sizes: &[Size], options: &Options, tally: &mut Tally) -> Result<()
                 .map_err(|d| d.to_string())?;
         }
         made += round;
+        progress.say(tally);
     }
 }
 

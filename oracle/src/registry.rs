@@ -1,13 +1,11 @@
 //! What the registries' calls have in common: the entries, subjects and services that a size uses,
-//! arguments at random, all calls on few numbers, refusals and answers. A call's role tells what its
-//! numbers are: registering grows, removing shrinks; the others name a subject or service and, where
+//! arguments at random, all calls on few numbers, and refusals. A call's role tells what its numbers
+//! are: registering grows, removing shrinks; the others name a subject or service and, where
 //! there is a second number, whether the frame is looped back.
 
-use crate::exports::Answer;
 use crate::pair::{Call, Op, Role};
 use crate::rng::Rng;
 use crate::tree::MOST_ENTRY;
-use emcyphal::registry::RegistrationError;
 use emcyphal::registry::probe::Listed;
 
 /// Subjects or services that sizes use; none named: all.
@@ -72,22 +70,6 @@ pub fn refused(call: Call, most: u32, is_registered: impl Fn(u8) -> bool) -> Opt
         Role::Grow if is_registered(a as u8) => Some(5),
         Role::Shrink if !is_registered(a as u8) => Some(8),
         _ => None,
-    }
-}
-
-pub fn registered(result: Result<(), RegistrationError>) -> Answer {
-    match result {
-        Ok(()) => Answer::DONE,
-        Err(RegistrationError::NoSubjectSlotLeft) => Answer::refused(6),
-        Err(RegistrationError::DataSpecifierOccupied) => Answer::refused(7),
-    }
-}
-
-/// The entry that got the frame, and whether more follow.
-pub fn pushed((entry, more): (Option<u8>, bool)) -> Answer {
-    match entry {
-        Some(entry) => Answer::new(0, 1, entry.into(), more.into()),
-        None => Answer::new(0, 0, 0, more.into()),
     }
 }
 

@@ -1,17 +1,15 @@
 //! `RegularInner` against the exports `gomxeli_reg_..`, and the filter image that its updates go into.
 
+use crate::answer::{pushed, registered, update};
 use crate::demand::Demand;
 use crate::exports::{self, Answer};
 use crate::image::{self, MOST_SUBJECT};
 use crate::pair::{Call, Lent, Op, Pair, Size, ops};
-use crate::registry::{
-    self, ALL, Draw, ENDS, NEAR, ONE, Pools, Range, SOME, THREE, pushed, registered,
-};
+use crate::registry::{self, ALL, Draw, ENDS, NEAR, ONE, Pools, Range, SOME, THREE};
 use crate::regular_bytes::{self as bytes, LENGTH};
 use crate::rng::Rng;
 use crate::tree;
 use emcyphal::registry::probe::Regular;
-use emcyphal_driver::link::FilterUpdate;
 
 ops! { "reg":
     OPEN = 60 "open" 1 Open;
@@ -142,16 +140,6 @@ impl<const SLOTS: u32, const ENTRIES: u32, const POOL: usize> Registry<SLOTS, EN
             return Ok(());
         }
         Err(format!("{call}: the image is not the set; ours {answer}"))
-    }
-}
-
-fn update(update: Option<FilterUpdate>) -> Answer {
-    match update {
-        None => Answer::DONE,
-        Some(FilterUpdate::AddSubject(subject)) => Answer::new(0, 1, subject.into(), 0),
-        Some(FilterUpdate::RemoveSubjectRange([first, last])) => {
-            Answer::new(0, 2, first.into(), u16::from(last).into())
-        }
     }
 }
 

@@ -1,9 +1,10 @@
 //! The registry of `rx_req.rs` against the exports `gomxeli_req_..`.
 
+use crate::answer::registered;
 use crate::exports::{self, Answer};
 use crate::one_tree::{self, OneTree};
 use crate::pair::{Call, Op, Size, ops};
-use crate::registry::{ALL, ENDS, NEAR, ONE, Pools, SOME, THREE, registered};
+use crate::registry::{ALL, ENDS, NEAR, ONE, Pools, SOME, THREE};
 use emcyphal::registry::probe::{Requests, Tree};
 
 ops! { "req":

@@ -18,6 +18,9 @@ impl Expected {
     }
 }
 
+/// Document 01: of refused calls, those with these numbers are put to the Rust, and no others.
+const PUT: [u8; 4] = [6, 7, 14, 15];
+
 /// How often each number was answered.
 type Numbers = BTreeMap<u8, u64>;
 
@@ -69,14 +72,20 @@ pub struct Tally {
 }
 
 impl Tally {
-    /// Counts a call that answered as expected.
+    /// Counts a call that answered as expected. The kind `panics` shows what the Rust does where it
+    /// is not to be asked.
     pub fn agreed(&mut self, kind: &'static str, call: &'static str, expected: Expected) {
         let row = self.rows.entry((kind, call)).or_default();
-        let numbers = match expected {
-            Expected::Asked(_) => &mut row.asked,
-            Expected::Unasked(_) => &mut row.unasked,
+        let number = expected.answer().number();
+        let (numbers, is_asked) = match expected {
+            Expected::Asked(_) => (&mut row.asked, true),
+            Expected::Unasked(_) => (&mut row.unasked, false),
         };
-        *numbers.entry(expected.answer().number()).or_default() += 1;
+        assert!(
+            kind == "panics" || number == 0 || is_asked == PUT.contains(&number),
+            "{kind} {call}: {number}, put to the Rust: {is_asked}"
+        );
+        *numbers.entry(number).or_default() += 1;
     }
 
     pub fn explored(&mut self, line: String) {

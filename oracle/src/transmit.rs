@@ -6,10 +6,11 @@
 //! for what. The registry itself is polled when our settlement comes, and its buffer answers what that
 //! reports; in between it gets no call. A pick that names nothing is a `poll_pop` that asks no buffer.
 
+use crate::answer::registered;
 use crate::exports::Answer;
 use crate::image::MOST_SUBJECT;
 use crate::pair::{Call, Lent, Op, Pair, Size};
-use crate::registry::{ALL, ENDS, NEAR, THREE, registered};
+use crate::registry::{ALL, ENDS, NEAR, THREE};
 use crate::rng::Rng;
 use crate::transmit_bytes::{self as bytes, Meaning, Pick};
 use crate::transmit_calls::{

@@ -39,20 +39,23 @@ pub fn run(tally: &mut Tally) -> Result<(), String> {
     Ok(())
 }
 
+/// A meaning laid over other bytes; of their tree, where there is one, no place is taken.
+fn laid(length: usize, lay: impl Fn(&mut [u8])) -> Lent {
+    let mut whole = Lent::new(length, 1);
+    whole[0] = 0;
+    lay(&mut whole);
+    whole
+}
+
 fn one_tree_kind<K: OneTree>() -> Kind {
-    let laid = |state: &Tree| {
-        let mut whole = Lent::new(K::LENGTH, 1);
-        whole[0] = 0;
-        one_tree::lay(state, &mut whole);
-        whole
-    };
+    let laid_out = |state: &Tree| laid(K::LENGTH, |bytes| one_tree::lay(state, bytes));
     let few = Range {
         entries: 1,
         pool: &[0],
         most: K::MOST,
     };
     Kind {
-        whole: trees::<K>().iter().map(laid).collect(),
+        whole: trees::<K>().iter().map(laid_out).collect(),
         pair_of: one_tree::pair_of::<K>,
         make: K::make,
         calls: few.every_call(K::OPS),
@@ -77,14 +80,9 @@ fn trees<K: OneTree>() -> [Tree; 3] {
 }
 
 fn transmit_kind<K: Transmit>() -> Kind {
-    let laid = |meaning: &Meaning| {
-        let mut whole = Lent::new(K::LENGTH, 1);
-        whole[0] = 0;
-        transmit_bytes::lay(meaning, &mut whole);
-        whole
-    };
+    let laid_out = |meaning: &Meaning| laid(K::LENGTH, |bytes| transmit_bytes::lay(meaning, bytes));
     Kind {
-        whole: meanings().iter().map(laid).collect(),
+        whole: meanings().iter().map(laid_out).collect(),
         pair_of: transmit::pair_of::<K>,
         make: transmit_calls::make::<K>,
         calls: transmit_calls::some_calls::<K>(),

@@ -15,7 +15,7 @@ pub record Reader : Type 0 where
 abbrev pub reader : List ℕ → List ℕ → Reader
 reader b p = record { state = b; part = p }
 
--- 32 bytes of the line are kept: every longer line is as little a call as these
+-- at most 32 bytes of a line are kept: a line of 32 bytes is no call, and neither is a longer one
 abbrev pub kept : List ℕ → ℕ → List ℕ
 kept p b = cond (ltb (length p) 32) (p ++ (b ∷ [])) p
 

@@ -87,7 +87,7 @@ fn main() {
     ended(&mut state, &part, n);
 }
 
-// What is proved of the reader: cutting the input changes nothing, and its bytes print what its lines print.
+// Does nothing: its contract is the theorem that it does not matter how the input is cut, and that its bytes print what its lines print.
 fn meaning()
     ensures { λ _. ⌜ Reads ⌝ }
 {}

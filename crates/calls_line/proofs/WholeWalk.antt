@@ -18,9 +18,9 @@ use Rattle.regular.specs.Calls.{on, bytes}
 use Rattle.regular.specs.declared.Answer.{Answer}
 use Rattle.regular.specs.declared.Answer.the-variants.{Refused, Started, Pushed}
 use Rattle.entry_tree.proofs.Count.{same, diff, below, above, compareEq, compareLe, count-self, count-append}
-use Rattle.regular_fair.proofs.Facts.{Facts, Ordered, onil, ocons, at-most}
-use Rattle.regular_fair.proofs.Fair.{fair-whole}
-use Rattle.regular_fair.proofs.Mean.{means}
+use Rattle.regular_valid.proofs.Facts.{Facts, Ordered, onil, ocons, at-most}
+use Rattle.regular_valid.proofs.Valid.{valid-whole}
+use Rattle.regular_valid.proofs.Mean.{means}
 use Rattle.calls_line.specs.Lines.{decimal, Shown, shown, printed, next, named, walk, said, entriesOn, WalkMeans}
 use Rattle.calls_line.proofs.WalkLaws.{named-end}
 
@@ -56,7 +56,7 @@ module _ (c : List ℕ) (y : Bytes c) (h : wholeB c ≡ true) where
   then-whole = means .meaning .keeps-whole HubPushNext c y h
 
   facts : Facts (read c)
-  facts = fair-whole (read c) (means .meaning .whole-fair c y h) .facts
+  facts = valid-whole (read c) (means .meaning .whole-valid c y h) .facts
 
   module _ (before l : List Pair) (p : Pair) (a : (read c) .active ≡ before ++ (p ∷ l)) (w : (read c) .walk ≡ some (p .entry)) where
     once : count (isEntry (p .entry)) before ≡ 0

@@ -127,10 +127,11 @@ pub record Said : Type 0 where
 abbrev pub once : ℕ → List ℕ → Result Answer Registry → Said
 once letter b r = record { state = bytes b r; text = printed letter ((shown (answer r)) .number) ((shown (answer r)) .words) }
 
--- at most n more entries of a walk on the bytes b: those named, and the bytes left
+-- a walk's next entry on the bytes b
 abbrev pub next : List ℕ → Shown
 next b = shown (answer (on hubPushNext b))
 
+-- at most n more entries of a walk on the bytes b: those named, and the bytes left
 unfoldable pub named : ℕ → Bool → List ℕ → List (List ℕ)
 named zero more b = []
 named (suc n) false b = []

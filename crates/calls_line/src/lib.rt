@@ -28,7 +28,7 @@ pub fn line(s: &mut [u8], text: &[u8], out: &mut [u8; 640]) -> usize
     }
 }
 
-// What is proved of the definition: a walk on whole bytes names every active entry on its subject.
+// Does nothing: its contract is the theorem that a walk on whole bytes names every active entry on its subject.
 pub fn meaning()
     ensures { λ _. ⌜ WalkMeans ⌝ }
 {}

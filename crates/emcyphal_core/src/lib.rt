@@ -400,7 +400,7 @@ impl TransferId {
     }
 }
 
-// Runs nothing: its contract states that bytes are sets.
+// Does nothing: its contract is the theorem that bytes are sets.
 pub fn bytes_are_sets()
     ensures { λ _. ⌜ BytesAreSets ⌝ }
 {}

@@ -54,6 +54,9 @@ module _ (t : List ℕ) (i : ℕ) (c : Cell) where
       ∙ getD-set-other u (2 + 3 * i) j (c .low) 0 q
       ∙ getD-set-other t (1 + 3 * i) j (c .entry) 0 p
 
+  pub set-number : size (setCell t i c) ≡ size t
+  set-number = set-byte 0 (omega arith) (omega arith) (omega arith)
+
   pub set-other : (k : ℕ) → k ≢ i → cellAt (setCell t i c) k ≡ cellAt t k
   set-other k h =
       cell-same (cellAt (setCell t i c) k) (cellAt t k)

@@ -5,7 +5,7 @@ use mathlib.Core.Logic.{_≢_}
 use mathlib.Core.Bool.{false}
 use mathlib.Core.List.{List, _∷_}
 use native.Mathlib.Omega.{arith}
-use native.Mathlib.Nat.{zero-div, add-zero}
+use native.Mathlib.Nat.{zero-div}
 use native.Mathlib.Decide.{decLt}
 use lib.Dec.{lit<}
 use lib.ListN.{length, getD, set, replicate, List·getD-eq-default}
@@ -14,12 +14,7 @@ use Rattle.state.specs.Result.{Bytes}
 use Rattle.state.proofs.Seq.{getD-each, length-each, each-getD, each-same, set-each}
 use Rattle.emcyphal_core.specs.Sets.{has, bits, setOf}
 use Rattle.emcyphal_core.proofs.Laws.{member, small, whole, same}
-use Rattle.filter_image.specs.Image.{Subjects, holds, bit, byteOf, imageOf, none}
-
--- byte i is the set of the bits p whose subject, 8 i + p, is in
-byte-set : (f : Subjects) (i : ℕ) → byteOf f i ≡ setOf (λ p. f (8 * i + p))
-unfolding bits
-byte-set f i = let e = ap (λ (n : ℕ). bit (f n)) (add-zero (8 * i)) in omega arith
+use Rattle.filter_image.specs.Image.{Subjects, holds, byteOf, imageOf, none}
 
 -- the subject 8 i + p is bit p of byte i
 pub at-bit : (b : List ℕ) (i p : ℕ) → p < 8 → holds b (8 * i + p) ≡ has (getD b i 0) p
@@ -34,7 +29,7 @@ length-image f = length-each 1024 (byteOf f)
 -- byte i of it
 image-byte : (f : Subjects) (i : ℕ) → i < 1024 → getD (imageOf f) i 0 ≡ setOf (λ p. f (8 * i + p))
 unfolding imageOf
-image-byte f i l = getD-each 1024 (byteOf f) i 0 l ∙ byte-set f i
+image-byte f i l = getD-each 1024 (byteOf f) i 0 l
 
 past-image : (f : Subjects) (i : ℕ) → 1024 ≤ i → getD (imageOf f) i 0 ≡ 0
 past-image f i l = List·getD-eq-default (imageOf f) 0 {n = i} (omega (arith, length-image f))
@@ -55,12 +50,12 @@ pub image-same : (f g : Subjects) → ((x : ℕ) → x < 8192 → f x ≡ g x) �
 unfolding imageOf
 image-same f g h =
     each-same 1024 (byteOf f) (byteOf g)
-    (λ i l. byte-set f i ∙ same (λ p. f (8 * i + p)) (λ p. g (8 * i + p)) (λ p k. h (8 * i + p) (omega arith)) ∙ sym (byte-set g i))
+    (λ i l. same (λ p. f (8 * i + p)) (λ p. g (8 * i + p)) (λ p k. h (8 * i + p) (omega arith)))
 
 -- ---- the set of an image
 
 byte-holds : (b : List ℕ) (i : ℕ) → Bytes b → byteOf (holds b) i ≡ getD b i 0
-byte-holds b i y = byte-set (holds b) i ∙ same (λ p. holds b (8 * i + p)) (has (getD b i 0)) (at-bit b i) ∙ whole (getD b i 0) (y i)
+byte-holds b i y = same (λ p. holds b (8 * i + p)) (has (getD b i 0)) (at-bit b i) ∙ whole (getD b i 0) (y i)
 
 pub image-holds : (b : List ℕ) → length b ≡ 1024 → Bytes b → imageOf (holds b) ≡ b
 unfolding imageOf
@@ -74,14 +69,14 @@ set-image b i v g l y a here there =
     let e : each 1024 (λ k. getD b k 0) ≡ b = rw l at (each-getD 0 b) in
     ap (λ (t : List ℕ). set t i v) (sym e)
     ∙ set-each 1024 (λ k. getD b k 0) (byteOf g) i v
-    (byte-set g i ∙ sym here)
-    (λ k n. byte-set g k ∙ same (λ p. g (8 * k + p)) (has (getD b k 0)) (λ p q. there (8 * k + p) (omega arith) ∙ at-bit b k p q) ∙ whole (getD b k 0) (y k))
+    (sym here)
+    (λ k n. same (λ p. g (8 * k + p)) (has (getD b k 0)) (λ p q. there (8 * k + p) (omega arith) ∙ at-bit b k p q) ∙ whole (getD b k 0) (y k))
     a
 
 -- ---- the empty image
 
 each-zero : (n : ℕ) → each n (byteOf none) ≡ replicate n 0
-unfolding each
+unfolding each bits
 each-zero zero = refl
 each-zero (suc n) = ap (λ (t : List ℕ). 0 ∷ t) (each-zero n)
 

@@ -1,5 +1,5 @@
 -- The filter image: 1,024 bytes; subject x is bit x mod 8 of byte x div 8. Its calls, on the set of subjects that it holds.
-use Prim.Native.Nat.{ℕ, _+_, _*_, _/_, _%_, _^_}
+use Prim.Native.Nat.{ℕ, _+_, _*_, _/_, _%_}
 use mathlib.Core.List.{List}
 use mathlib.Core.Bool.{Bool, false, cond, not, _&&_, _||_}
 use lib.Dec.{eqb, leb, ltb}
@@ -8,6 +8,7 @@ use Rattle.state.specs.Lengths.{imageLength}
 use Rattle.state.specs.Seq.{each}
 use Rattle.state.specs.Result as state
 use Rattle.state.specs.Result.{Result, refuse, done}
+use Rattle.emcyphal_core.specs.Sets.{has, bits}
 use Rattle.filter_image.specs.declared.Answer.{Answer}
 use Rattle.filter_image.specs.declared.Answer.the-variants.{Refused, Done, Holds}
 
@@ -17,17 +18,12 @@ Subjects = ℕ → Bool
 
 -- what the bytes mean: the subject x is in
 abbrev pub holds : List ℕ → Subjects
-holds b x = eqb (getD b (x / 8) 0 / 2 ^ (x % 8) % 2) 1
+holds b x = has (getD b (x / 8) 0) (x % 8)
 
 -- ---- the bytes of a set
 
-abbrev pub bit : Bool → ℕ
-bit t = cond t 1 0
-
 abbrev pub byteOf : Subjects → ℕ → ℕ
-byteOf f i =
-    bit (f (8 * i)) + 2 * bit (f (8 * i + 1)) + 4 * bit (f (8 * i + 2)) + 8 * bit (f (8 * i + 3))
-    + 16 * bit (f (8 * i + 4)) + 32 * bit (f (8 * i + 5)) + 64 * bit (f (8 * i + 6)) + 128 * bit (f (8 * i + 7))
+byteOf f i = bits 8 (λ p. f (8 * i + p))
 
 unfoldable pub imageOf : Subjects → List ℕ
 imageOf f = each imageLength (byteOf f)

@@ -1,4 +1,4 @@
--- What the inner functions are told. No contract of a public call cites this.
+-- What the inner function answers. No contract of a public call cites this.
 use Prim.Native.Nat.{ℕ}
 use mathlib.Core.List.{List}
 use mathlib.Core.Bool.{cond}

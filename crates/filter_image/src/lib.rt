@@ -7,6 +7,7 @@ ghost use Rattle.state.specs.Result.{answer, Bytes};
 ghost use Rattle.filter_image.specs.Inner.{refusal};
 ghost use Rattle.filter_image.specs.Image.{holds, imageOf, none, withoutRange, bytes, opening, addSubject, removeSubjectRange, hasSubject};
 
+// An answer of a call. `Holds`: whether the subject is in.
 pub enum Answer {
     Refused(u8),
     Done,

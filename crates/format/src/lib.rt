@@ -1,4 +1,4 @@
-// The tail byte of a frame, after emcyphal/src/format.rs. Its transfer CRC is left out.
+// The tail byte of a frame, after emcyphal/src/format.rs. That file's transfer CRC is left out.
 ghost use mathlib.Core.Path.{_≡_};
 ghost use Prim.Native.Nat.{_%_};
 ghost use Rattle.emcyphal_core.specs.Ids.{transfers};
@@ -86,7 +86,7 @@ pub fn is_eot_frame(frame: &[u8]) -> MaybeEot
     }
 }
 
-// Runs nothing: its contract states that each field of a tail byte reads back.
+// Does nothing: its contract is the theorem that each field of a tail byte reads back.
 pub fn fields_read_back()
     ensures { λ _. ⌜ Fields ⌝ }
 {}

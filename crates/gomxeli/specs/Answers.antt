@@ -1,9 +1,9 @@
 -- The 64-bit answers of the exported functions: bits 0 to 7 the number, 8 to 15 what, 16 to 31 the first field, 32 to 63 the second.
 -- The number is 0 where the call is accepted, and else document 01's number of the refusal.
-use Prim.Native.Nat.{ℕ, _+_, _*_}
+use Prim.Native.Nat.{ℕ, _+_, _*_, _/_, _%_}
 use mathlib.Core.Bool.{Bool, cond}
-use lib.Dec.{leb}
-use Rattle.emcyphal_core.specs.Priorities.{number}
+use lib.Dec.{eqb, leb}
+use Rattle.emcyphal_core.specs.Priorities as priorities
 use Rattle.emcyphal_core.specs.declared.MaybePriority as priority
 use Rattle.emcyphal_core.specs.declared.MaybePriority.the-variants as priority-says
 use Rattle.emcyphal_core.specs.declared.NextPriority as next
@@ -35,6 +35,22 @@ use Rattle.index_queue.specs.declared.Answer.the-variants as key-says
 
 unfoldable pub packed : ℕ → ℕ → ℕ → ℕ → ℕ
 packed number what first second = number + 256 * what + 65536 * first + 4294967296 * second
+
+-- the fields of a packed answer
+abbrev pub number : ℕ → ℕ
+number a = a % 256
+
+abbrev pub what : ℕ → ℕ
+what a = a / 256 % 256
+
+abbrev pub first : ℕ → ℕ
+first a = a / 65536 % 65536
+
+abbrev pub second : ℕ → ℕ
+second a = a / 4294967296
+
+abbrev pub accepted : ℕ → Bool
+accepted a = eqb (number a) 0
 
 abbrev pub flag : Bool → ℕ
 flag b = cond b 1 0
@@ -101,7 +117,7 @@ imageAnswer (image-says.Holds b) = packed 0 (flag b) 0 0
 
 -- what may be missing: what 1 and the value first, or what 0
 abbrev pub priorityAnswer : priority.MaybePriority → ℕ
-priorityAnswer (priority-says.Some p) = packed 0 1 (number p) 0
+priorityAnswer (priority-says.Some p) = packed 0 1 (priorities.number p) 0
 priorityAnswer priority-says.None = packed 0 0 0 0
 
 abbrev pub subjectAnswer : subject.MaybeSubjectId → ℕ
@@ -126,7 +142,7 @@ eotAnswer eot-says.None = packed 0 0 0 0
 
 -- an iterator's step: the priority first, then the set that is left
 abbrev pub nextAnswer : next.NextPriority → ℕ
-nextAnswer (next-says.Some p i) = packed 0 1 (number p) (i .residual .0)
+nextAnswer (next-says.Some p i) = packed 0 1 (priorities.number p) (i .residual .0)
 nextAnswer next-says.None = packed 0 0 0 0
 
 -- the answer of a call that takes a priority: 3 where it is above 7

@@ -54,7 +54,7 @@ pub data Call : Type 0 where
   TxrRegister TxmUpdate TxrUpdate TxmPick TxrPick : ℕ → ℕ → Call
   TxmSettle TxrSettle : ℕ → ℕ → ℕ → ℕ → ℕ → Call
 
--- each as its own contract has it
+-- what each call answers and leaves: its contract cites its line
 abbrev pub does : Call → List ℕ → Outcome
 does (McqOpen c e) b = changes listAnswer mcq.bytes b (mcq.opening (length b) c e)
 does (McqFront c) b = asks listAnswer b (mcq.on (mcq.front c) b)

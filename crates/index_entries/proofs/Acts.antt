@@ -15,23 +15,23 @@ use borrow.Author.Tests.{lt-ltb, le-leb, lt-leb, eq-eqb, eqb-true}
 use Rattle.state.specs.Lengths.{keysLength}
 use Rattle.state.specs.Result.{Bytes}
 use Rattle.state.proofs.Tests.{not-both, false-of}
-use Rattle.multi_cycle_list.specs.Lists.{Lists, Fair, count, row, without, removed, without-entry, movedFront, movedBack}
+use Rattle.multi_cycle_list.specs.Lists.{Lists, Valid, count, row, without, removed, without-entry, movedFront, movedBack}
 use Rattle.multi_cycle_list.specs.Nodes as nodes
 use Rattle.multi_cycle_list.specs.Laid as lists
 use Rattle.multi_cycle_list.proofs.Laid as mcl
-use Rattle.multi_cycle_list.proofs.Changes.{remove-fair, front-fair, back-fair}
-use Rattle.index_entries.specs.Keys.{Slot, free, holds, spent, Keys, hasKey, isFree, slot, Found, missing, at, found, Within, FairKeys, withSlot, withLists, changed as change}
+use Rattle.multi_cycle_list.proofs.Changes.{remove-valid, front-valid, back-valid}
+use Rattle.index_entries.specs.Keys.{Slot, free, holds, spent, Keys, hasKey, isFree, slot, Found, missing, at, found, Within, ValidKeys, withSlot, withLists, changed as change}
 use Rattle.index_entries.specs.Bytes.{kMax, entries, listPart, keyWord, value, index, read, wholeB}
 use Rattle.index_entries.specs.Inner.{setWord, setLong, withList}
 use Rattle.index_entries.specs.Laid.{wordOver, valueOver, indexOver, laid}
 use Rattle.index_entries.proofs.Find.{Looks, looks, found-none, found-at, key-not-free}
 use Rattle.multi_cycle_list.proofs.Lists.{count-gone, count-kept, count-append}
 use Rattle.index_entries.proofs.Counts.{count-one, count-self, gone-row, front-row, back-row, freed-row}
-use Rattle.index_entries.proofs.Keeping.{Keeps, slot-same, slot-other, by-slot, change-fair}
+use Rattle.index_entries.proofs.Keeping.{Keeps, slot-same, slot-other, by-slot, change-valid}
 use Rattle.index_entries.proofs.Fields.{Has, has-same, has-one}
 use Rattle.index_entries.proofs.Stores.{upd, upd-same, upd-other, has-list, store-word, store-long, store-index}
 use Rattle.index_entries.proofs.LaidFields.{laid-has-at}
-use Rattle.index_entries.proofs.Facts.{Facts, facts-of, slots-length, slot-in, part-entries, owner, named, read-fair, self-has, word-self, value-self}
+use Rattle.index_entries.proofs.Facts.{Facts, facts-of, slots-length, slot-in, part-entries, owner, named, read-valid, self-has, word-self, value-self}
 
 -- ---- what a change keeps, by the change of the lists
 
@@ -39,21 +39,21 @@ use Rattle.index_entries.proofs.Facts.{Facts, facts-of, slots-length, s
 pub record Moves (m : Keys) (i : ℕ) (l : Lists) (isIn : Bool) : Type 0 where
   pub classes : length (l .rows) ≡ 2
   pub entries : l .entries ≡ m .lists .entries
-  pub fair : Fair l
+  pub valid : Valid l
   pub others : (j : ℕ) → j ≢ i → count j (row l 1) ≡ count j (row (m .lists) 1)
   pub listed : isIn ≡ true → 0 < count i (row l 1)
   pub unlisted : isIn ≡ false → count i (row l 1) ≡ 0
 
-module _ (m : Keys) (f : FairKeys m) (i : ℕ) (h : i < length (m .slots)) where
+module _ (m : Keys) (f : ValidKeys m) (i : ℕ) (h : i < length (m .slots)) where
   in-lists : i < m .lists .entries
   in-lists = omega (arith, f .entries)
 
-  gone : (l : Lists) → length (l .rows) ≡ 2 → l .entries ≡ m .lists .entries → Fair l → row l 1 ≡ without i (row (m .lists) 1) → Moves m i l false
+  gone : (l : Lists) → length (l .rows) ≡ 2 → l .entries ≡ m .lists .entries → Valid l → row l 1 ≡ without i (row (m .lists) 1) → Moves m i l false
   gone l c e g q =
       record {
         classes = c;
         entries = e;
-        fair = g;
+        valid = g;
         others = λ j n. ap (count j) q ∙ count-kept j i (row (m .lists) 1) n;
         listed = λ z. not-both (sym z);
         unlisted = λ z. ap (count i) q ∙ count-gone i (row (m .lists) 1);
@@ -63,17 +63,17 @@ module _ (m : Keys) (f : FairKeys m) (i : ℕ) (h : i < length (m .slots)) where
   removed-two = length-map (m .lists .rows) (without i) ∙ f .classes
 
   pub moves-gone : Moves m i (without-entry i (m .lists)) false
-  moves-gone = gone (without-entry i (m .lists)) removed-two refl (remove-fair (m .lists) (f .fair) i in-lists) (gone-row i (m .lists))
+  moves-gone = gone (without-entry i (m .lists)) removed-two refl (remove-valid (m .lists) (f .valid) i in-lists) (gone-row i (m .lists))
 
   pub moves-front : Moves m i (movedFront 0 i (m .lists)) false
   moves-front =
       gone (movedFront 0 i (m .lists)) (length-set (removed i (m .lists .rows)) 0 (i ∷ getD (removed i (m .lists .rows)) 0 []) ∙ removed-two) refl
-      (front-fair (m .lists) (f .fair) i in-lists 0 (omega (arith, f .classes))) (front-row i (m .lists))
+      (front-valid (m .lists) (f .valid) i in-lists 0 (omega (arith, f .classes))) (front-row i (m .lists))
 
   pub moves-back : Moves m i (movedBack 0 i (m .lists)) false
   moves-back =
       gone (movedBack 0 i (m .lists)) (length-set (removed i (m .lists .rows)) 0 (getD (removed i (m .lists .rows)) 0 [] ++ (i ∷ [])) ∙ removed-two) refl
-      (back-fair (m .lists) (f .fair) i in-lists 0 (omega (arith, f .classes))) (back-row i (m .lists))
+      (back-valid (m .lists) (f .valid) i in-lists 0 (omega (arith, f .classes))) (back-row i (m .lists))
 
   pub moves-free : Moves m i (movedBack 1 i (m .lists)) true
   moves-free =
@@ -81,7 +81,7 @@ module _ (m : Keys) (f : FairKeys m) (i : ℕ) (h : i < length (m .slots)) where
       record {
         classes = length-set (removed i (m .lists .rows)) 1 (getD (removed i (m .lists .rows)) 1 [] ++ (i ∷ [])) ∙ removed-two;
         entries = refl;
-        fair = back-fair (m .lists) (f .fair) i in-lists 1 (omega (arith, f .classes));
+        valid = back-valid (m .lists) (f .valid) i in-lists 1 (omega (arith, f .classes));
         others = λ j n. ap (count j) q ∙ count-append j (without i (row (m .lists) 1)) (i ∷ []) ∙ omega (arith, count-kept j i (row (m .lists) 1) n, count-one j i n);
         listed = λ z. omega (arith, ap (count i) q, count-append i (without i (row (m .lists) 1)) (i ∷ []), count-self i);
         unlisted = λ z. not-both z;
@@ -93,7 +93,7 @@ module _ (m : Keys) (f : FairKeys m) (i : ℕ) (h : i < length (m .slots)) where
       record {
         classes = f .classes;
         entries = refl;
-        fair = f .fair;
+        valid = f .valid;
         others = λ j n. refl;
         listed = λ z. not-both (sym z);
         unlisted = λ z. elim (decLt 0 (count i (row (m .lists) 1))) [ yes p ↦ not-both (sym (f .listed-free i p) ∙ q) | no p ↦ omega arith ];
@@ -107,7 +107,7 @@ module _ (m : Keys) (f : FairKeys m) (i : ℕ) (h : i < length (m .slots)) where
         own = o;
         classes = v .classes;
         entries = v .entries;
-        fair = v .fair;
+        valid = v .valid;
         others = v .others;
         free-in = v .listed;
         in-free = λ p. cases (isFree x) (v .unlisted) p;
@@ -120,13 +120,13 @@ module _ (m : Keys) (f : FairKeys m) (i : ℕ) (h : i < length (m .slots)) where
 -- ---- the bytes of a change
 
 module _ (s : List ℕ) (y : Bytes s) (f : Facts s) (i : ℕ) (x : Slot) (l : Lists) (k : Keeps (read s) i x l) where
-  fair′ : FairKeys (change i x l (read s))
-  fair′ = change-fair (read s) i x l (read-fair s f y) k
+  valid′ : ValidKeys (change i x l (read s))
+  valid′ = change-valid (read s) i x l (read-valid s f y) k
 
   at-i : (j : ℕ) → hasKey j x ≡ true → found (change i x l (read s)) j ≡ at i (slot (change i x l (read s)) i)
   at-i j p =
       let q : hasKey j (slot (change i x l (read s)) i) ≡ true = ap (hasKey j) (slot-same (read s) i x l (k .inside) i refl) ∙ p in
-      found-at j (change i x l (read s) .slots) i q (λ a c. fair′ .distinct a i j c q)
+      found-at j (change i x l (read s) .slots) i q (λ a c. valid′ .distinct a i j c q)
 
   none : (j : ℕ) → hasKey j x ≡ false → ((a : ℕ) → a ≢ i → hasKey j (slot (read s) a) ≡ false) → found (change i x l (read s)) j ≡ missing
   none j p o = found-none j (change i x l (read s) .slots) (by-slot (read s) i x l (k .inside) (λ a z. hasKey j z ≡ false) p o)
@@ -140,14 +140,14 @@ module _ (s : List ℕ) (y : Bytes s) (f : Facts s) (i : ℕ) (x : Slot) (l : Li
             (let e = named s f j h q in
             let d : a ≢ i = λ z. not-both (sym e ∙ ap (λ (w : ℕ). hasKey j (slot (read s) w)) z ∙ o) in
             let r : hasKey j (slot (change i x l (read s)) a) ≡ true = ap (hasKey j) (slot-other (read s) i x l (k .inside) a d) ∙ e in
-            rw (found-at j (change i x l (read s) .slots) a r (λ c z. fair′ .distinct c a j z r)))
+            rw (found-at j (change i x l (read s) .slots) a r (λ c z. valid′ .distinct c a j z r)))
         | no q ↦ rw (none j p (λ c z. false-of (hasKey j (slot (read s) c)) (λ e. let w = owner s f c j e in omega (arith, w .0, w .1 .named)))) (rw (le-leb n a (omega arith)))
       ]
 
   lost-at : (j : ℕ) → hasKey j x ≡ false → hasKey j (slot (read s) i) ≡ true → indexOver (entries s) (found (change i x l (read s)) j) (index (entries s) s j) ≡ 255
   lost-at j p o =
       let w = owner s f i j o in
-      rw (none j p (λ a d. false-of (hasKey j (slot (read s) a)) (λ e. d (read-fair s f y .distinct a i j e o))))
+      rw (none j p (λ a d. false-of (hasKey j (slot (read s) a)) (λ e. d (read-valid s f y .distinct a i j e o))))
       (rw (lt-leb (entries s) (index (entries s) s j) (omega (arith, w .0, w .1 .named))))
 
   -- the index that the change asks for
@@ -172,7 +172,7 @@ module _ (s : List ℕ) (y : Bytes s) (f : Facts s) (i : ℕ) (x : Slot) (l : Li
       let n = entries s in
       let c = change i x l (read s) in
       let e : length (c .slots) ≡ n = length-set (read s .slots) i x ∙ slots-length s in
-      let o = laid-has-at c s (k .classes) (fair′ .entries) (f .len ∙ ap (keysLength (kMax s)) (sym e)) n e in
+      let o = laid-has-at c s (k .classes) (valid′ .entries) (f .len ∙ ap (keysLength (kMax s)) (sym e)) n e in
       let W : ℕ → ℕ = λ j. wordOver (slot c j) (keyWord n s j) in
       let U : ℕ → ℕ = λ j. valueOver (slot c j) (value n s j) in
       let X : ℕ → ℕ = λ j. indexOver n (found c j) (index n s j) in
@@ -189,9 +189,9 @@ module _ (s : List ℕ) (y : Bytes s) (h : wholeB s ≡ true) (i : ℕ) (hi : i 
   f : Facts s
   f = facts-of s h
 
-  r : FairKeys (read s)
+  r : ValidKeys (read s)
   unfolding f
-  r = read-fair s f y
+  r = read-valid s f y
 
   in-slots : i < length (read s .slots)
   in-slots = omega (arith, slots-length s)

@@ -19,7 +19,7 @@ use Rattle.multi_cycle_list.specs.Nodes as nodes
 use Rattle.multi_cycle_list.proofs.Meaning.{list-at}
 use Rattle.multi_cycle_list.proofs.Laid as mcl
 use Rattle.multi_cycle_list.proofs.Changes.{rows-length}
-use Rattle.index_entries.specs.Keys.{Slot, free, holds, spent, hasKey, isFree, slot, missing, at, found, Within, FairKeys}
+use Rattle.index_entries.specs.Keys.{Slot, free, holds, spent, hasKey, isFree, slot, missing, at, found, Within, ValidKeys}
 use Rattle.index_entries.specs.Bytes.{wordAt, kMax, entries, listPart, keyWord, value, index, slotOf, slotAt, read, sizesB, listsB, isListed, indexed, slotB, keyB, wholeB}
 use Rattle.index_entries.specs.Laid.{wordOver, valueOver, indexOver, laid}
 use Rattle.index_entries.proofs.Find.{found-none, found-at}
@@ -219,15 +219,15 @@ module _ (b : List ℕ) (f : Facts b) where
         (λ a c h. keyed b i (w - 8192) (w - 8192) h refl .within)
         (λ a h. tt)
 
-    pub read-fair : FairKeys (read b)
-    read-fair =
+    pub read-valid : ValidKeys (read b)
+    read-valid =
         record {
           sizes = ap (keysAllowed (kMax b)) (slots-length b) ∙ allowed-keys (kMax b) (entries b) (f .low) (f .few);
           within = by-read b (λ i s. Within (kMax b) s) (λ i h. within-of i (keyWord (entries b) b i) (f .slots i h)) (λ i h. tt);
           distinct = λ i j k p q. sym (owner i k p .1 .named) ∙ owner j k q .1 .named;
           classes = rows-length (listPart b) ∙ f .two;
           entries = part-entries b ∙ sym (slots-length b);
-          fair = mcl.read-fair (listPart b) (f .lists);
+          valid = mcl.read-valid (listPart b) (f .lists);
           free-listed = λ i h. by-read b (λ i s. i < entries b → isFree s ≡ true → 0 < count i (row (read b .lists) 1)) (λ i l h q. listed-row i (slot-free b i (slotAt b i) (f .slots i l) q)) (λ i l h. absurd (omega arith)) i (omega (arith, slots-length b));
           listed-free = by-read b (λ i s. 0 < count i (row (read b .lists) 1) → isFree s ≡ true) (λ i l h. slot-listed b i (slotAt b i) (f .slots i l) (row-listed i h)) (λ i l h. refl);
         }
@@ -255,7 +255,7 @@ module _ (b : List ℕ) (f : Facts b) where
     laid-read =
         let n = entries b in
         let m = read b in
-        let h = laid-has-at m b (read-fair .classes) (read-fair .entries) (f .len ∙ ap (keysLength (kMax b)) (sym (slots-length b))) n (slots-length b) in
+        let h = laid-has-at m b (read-valid .classes) (read-valid .entries) (f .len ∙ ap (keysLength (kMax b)) (sym (slots-length b))) n (slots-length b) in
         let l = mcl.laid-read (listPart b) (f .lists) in
         has-one n (kMax b) b (listPart b) (laid m b) b (keyWord n b) (value n b) (index n b)
         (has-same n (kMax b) b (listPart b) (laid m b)

@@ -1,4 +1,4 @@
--- Opening: the bytes it leaves, and that what they mean is fair.
+-- Opening: the bytes it leaves, and that what they mean is valid.
 use Prim.Native.Nat.{ℕ, zero, suc, _+_, _-_, _*_, _/_, _%_, _<_, _≤_}
 use mathlib.Core.Path.{_≡_, refl, sym, ap, _∙_, subst}
 use mathlib.Core.List.{List, [], _∷_, _++_}
@@ -13,14 +13,14 @@ use borrow.Author.Tests.{le-leb}
 use Rattle.state.specs.Lengths.{listsAllowed, keysAllowed, keysLength}
 use Rattle.state.specs.Seq.{each}
 use Rattle.state.proofs.Tests.{not-both}
-use Rattle.multi_cycle_list.specs.Lists.{Lists, Fair, count, without, movedBack, empty}
+use Rattle.multi_cycle_list.specs.Lists.{Lists, Valid, count, without, movedBack, empty}
 use Rattle.multi_cycle_list.specs.Nodes as nodes
 use Rattle.multi_cycle_list.specs.Laid as lists
 use Rattle.multi_cycle_list.proofs.Lists.{In, in-count, without-none, count-append}
 use Rattle.multi_cycle_list.proofs.WholeTools.{of-allowed}
 use Rattle.multi_cycle_list.proofs.Laid as mcl
-use Rattle.multi_cycle_list.proofs.Changes.{back-fair, empty-fair}
-use Rattle.index_entries.specs.Keys.{Slot, free, hasKey, isFree, slot, found, missing, FairKeys, freeFirst, fresh}
+use Rattle.multi_cycle_list.proofs.Changes.{back-valid, empty-valid}
+use Rattle.index_entries.specs.Keys.{Slot, free, hasKey, isFree, slot, found, missing, ValidKeys, freeFirst, fresh}
 use Rattle.index_entries.specs.Bytes.{keyWord, value, index}
 use Rattle.index_entries.specs.Laid.{wordOver, valueOver, indexOver, laid}
 use Rattle.index_entries.specs.Inner.{setWord}
@@ -74,13 +74,13 @@ none-free : (n : ℕ) → empty 2 n ≡ freeFirst n 0
 unfolding each
 none-free n = refl
 
-pub first-fair : (n f : ℕ) → n ≤ 222 → f ≤ n → Fair (freeFirst n f)
-first-fair n zero h l = subst (λ (m : Lists). Fair m) (none-free n) (empty-fair 2 n (two-allowed n h))
-first-fair n (suc f) h l =
-    subst (λ (m : Lists). Fair m) (one-more n f ∙ ap (freeFirst n) (add-one f))
-    (back-fair (freeFirst n f) (first-fair n f h (omega arith)) f (omega arith) 1 (omega arith))
+pub first-valid : (n f : ℕ) → n ≤ 222 → f ≤ n → Valid (freeFirst n f)
+first-valid n zero h l = subst (λ (m : Lists). Valid m) (none-free n) (empty-valid 2 n (two-allowed n h))
+first-valid n (suc f) h l =
+    subst (λ (m : Lists). Valid m) (one-more n f ∙ ap (freeFirst n) (add-one f))
+    (back-valid (freeFirst n f) (first-valid n f h (omega arith)) f (omega arith) 1 (omega arith))
 
--- ---- what is opened is fair
+-- ---- what is opened is valid
 
 no-key : (n i k : ℕ) → hasKey k (getD (replicate n free) i free) ≡ false
 no-key zero i k = refl
@@ -92,8 +92,8 @@ all-free zero i = refl
 all-free (suc n) zero = refl
 all-free (suc n) (suc i) = all-free n i
 
-pub fresh-fair : (k n : ℕ) → keysAllowed k n ≡ true → FairKeys (fresh k n)
-fresh-fair k n h =
+pub fresh-valid : (k n : ℕ) → keysAllowed k n ≡ true → ValidKeys (fresh k n)
+fresh-valid k n h =
     let a = keys-allowed k n h in
     let e : length (replicate n free) ≡ n = length-replicate {A = Slot} n free in
     record {
@@ -102,7 +102,7 @@ fresh-fair k n h =
       distinct = λ i j c p q. not-both (sym p ∙ no-key n i c);
       classes = refl;
       entries = sym e;
-      fair = first-fair n n (a .1) (omega arith);
+      valid = first-valid n n (a .1) (omega arith);
       free-listed = λ i l q. upto-in n i (omega (arith, e));
       listed-free = λ i q. ap isFree (all-free n i);
     }
@@ -114,13 +114,13 @@ module _ (n f : ℕ) (h : n ≤ 222) (l : f < n) (q : List ℕ) (e : q ≡ lists
   next-requires =
       let m = freeFirst n f in
       let o = mcl.out-sizes 2 n (lists.arcs 2 0 (m .rows)) in
-      rw e (mcl.laid-whole m (first-fair n f h (omega arith)), (omega (arith, o .0), omega (arith, o .1)))
+      rw e (mcl.laid-whole m (first-valid n f h (omega arith)), (omega (arith, o .0), omega (arith, o .1)))
 
   pub next-is : (p : List ℕ) → p ≡ lists.laid (movedBack 1 f (nodes.read q)) → p ≡ lists.laid (freeFirst n (f + 1))
   next-is p g =
       g
       ∙ ap (λ (z : List ℕ). lists.laid (movedBack 1 f (nodes.read z))) e
-      ∙ ap (λ (m : Lists). lists.laid (movedBack 1 f m)) (mcl.read-laid (freeFirst n f) (first-fair n f h (omega arith)))
+      ∙ ap (λ (m : Lists). lists.laid (movedBack 1 f m)) (mcl.read-laid (freeFirst n f) (first-valid n f h (omega arith)))
       ∙ ap (λ (m : Lists). lists.laid m) (one-more n f)
 
 pub none-laid : (n : ℕ) → lists.laid (empty 2 n) ≡ lists.laid (freeFirst n 0)

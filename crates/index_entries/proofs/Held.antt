@@ -6,7 +6,7 @@ use native.Mathlib.Omega.{arith}
 use borrow.Author.Tests.{lt-ltb, le-ltb}
 use Rattle.index_entries.specs.Keys.{slot}
 use Rattle.index_entries.specs.Bytes.{entries, keyWord, value, read}
-use Rattle.index_entries.specs.Answers.{heldOf}
+use Rattle.index_entries.specs.Inner.{heldOf}
 use Rattle.index_entries.specs.declared.look.Held.the-variants.{Value, Spent, Free}
 use Rattle.index_entries.proofs.Facts.{slot-in}
 

@@ -1,4 +1,4 @@
--- One law for all changes of a key queue: an entry's slot and the lists are replaced, and the meaning stays fair.
+-- One law for all changes of a key queue: an entry's slot and the lists are replaced, and the meaning stays valid.
 use Prim.Native.Nat.{ℕ, _<_}
 use mathlib.Core.Path.{_≡_, refl, sym, ap, _∙_, subst}
 use mathlib.Core.Logic.{_≢_}
@@ -7,11 +7,11 @@ use native.Mathlib.Omega.{arith}
 use native.Mathlib.Decide.{ℕ-discrete}
 use lib.ListN.{length, getD, set, length-set}
 use lib.Seq.{getD-set-same, getD-set-other}
-use Rattle.multi_cycle_list.specs.Lists.{Lists, Fair, count, row}
+use Rattle.multi_cycle_list.specs.Lists.{Lists, Valid, count, row}
 use Rattle.state.specs.Lengths.{keysAllowed}
-use Rattle.index_entries.specs.Keys.{Slot, free, Keys, hasKey, isFree, slot, Within, FairKeys, changed as change}
+use Rattle.index_entries.specs.Keys.{Slot, free, Keys, hasKey, isFree, slot, Within, ValidKeys, changed as change}
 
--- what a change needs to keep the meaning fair
+-- what a change needs to keep the meaning valid
 pub record Keeps (m : Keys) (i : ℕ) (x : Slot) (l : Lists) : Type 0 where
   pub inside : i < length (m .slots)
   pub within : Within (m .kMax) x
@@ -19,7 +19,7 @@ pub record Keeps (m : Keys) (i : ℕ) (x : Slot) (l : Lists) : Type 0 where
   pub own : (k j : ℕ) → hasKey k x ≡ true → hasKey k (slot m j) ≡ true → j ≡ i
   pub classes : length (l .rows) ≡ 2
   pub entries : l .entries ≡ m .lists .entries
-  pub fair : Fair l
+  pub valid : Valid l
   pub others : (j : ℕ) → j ≢ i → count j (row l 1) ≡ count j (row (m .lists) 1)
   pub free-in : isFree x ≡ true → 0 < count i (row l 1)
   pub in-free : 0 < count i (row l 1) → isFree x ≡ true
@@ -47,8 +47,8 @@ module _ (m : Keys) (i : ℕ) (x : Slot) (l : Lists) (hi : i < length (m .slots)
       (λ a n p. by-slot (λ b s. hasKey c s ≡ true → a ≡ b) (λ q. o c a q p) (λ b n q. d a b c p q) b)
       a
 
-pub change-fair : (m : Keys) (i : ℕ) (x : Slot) (l : Lists) → FairKeys m → Keeps m i x l → FairKeys (change i x l m)
-change-fair m i x l f k =
+pub change-valid : (m : Keys) (i : ℕ) (x : Slot) (l : Lists) → ValidKeys m → Keeps m i x l → ValidKeys (change i x l m)
+change-valid m i x l f k =
     let hi = k .inside in
     let n : length (set (m .slots) i x) ≡ length (m .slots) = length-set (m .slots) i x in
     record {
@@ -57,7 +57,7 @@ change-fair m i x l f k =
       distinct = change-distinct m i x l hi (f .distinct) (k .own);
       classes = k .classes;
       entries = k .entries ∙ f .entries ∙ sym n;
-      fair = k .fair;
+      valid = k .valid;
       free-listed = λ j h. by-slot m i x l hi (λ j s. j < length (m .slots) → isFree s ≡ true → 0 < count j (row l 1)) (λ h. k .free-in) (λ j q h p. omega (arith, k .others j q, f .free-listed j h p)) j (omega (arith, n));
       listed-free = by-slot m i x l hi (λ j s. 0 < count j (row l 1) → isFree s ≡ true) (k .in-free) (λ j q h. f .listed-free j (omega (arith, k .others j q)));
     }

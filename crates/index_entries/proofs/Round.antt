@@ -1,4 +1,4 @@
--- Whatever is fair is laid out as whole bytes, which mean it.
+-- Whatever is valid is laid out as whole bytes, which mean it.
 use Prim.Native.Nat.{ℕ, _+_, _-_, _*_, _<_, _≤_}
 use mathlib.Core.Path.{_≡_, refl, sym, ap, _∙_, subst}
 use mathlib.Core.List.{List}
@@ -19,7 +19,7 @@ use Rattle.multi_cycle_list.specs.Nodes as nodes
 use Rattle.multi_cycle_list.specs.Laid as lists
 use Rattle.multi_cycle_list.proofs.Meaning.{list-at}
 use Rattle.multi_cycle_list.proofs.Laid as mcl
-use Rattle.index_entries.specs.Keys.{Slot, free, holds, spent, Keys, hasKey, slot, Found, missing, at, found, Within, FairKeys}
+use Rattle.index_entries.specs.Keys.{Slot, free, holds, spent, Keys, hasKey, slot, Found, missing, at, found, Within, ValidKeys}
 use Rattle.index_entries.specs.Bytes.{kMax, entries, listPart, keyWord, value, index, slotOf, slotAt, read, isListed, keyB, wholeB}
 use Rattle.index_entries.specs.Laid.{wordOver, valueOver, indexOver, laid}
 use Rattle.index_entries.proofs.Find.{Looks, looks, found-at, key-not-free}
@@ -65,7 +65,7 @@ index-none n x l = elim (decLt x n) [ yes p ↦ rw (lt-leb n x p) (omega arith) 
 
 -- ---- all of it
 
-module _ (m : Keys) (b : List ℕ) (y : Bytes b) (f : FairKeys m) (fit : length b ≡ keysLength (m .kMax) (length (m .slots))) where
+module _ (m : Keys) (b : List ℕ) (y : Bytes b) (f : ValidKeys m) (fit : length b ≡ keysLength (m .kMax) (length (m .slots))) where
   t : List ℕ
   t = laid m b
 
@@ -144,7 +144,7 @@ module _ (m : Keys) (b : List ℕ) (y : Bytes b) (f : FairKeys m) (fit : length 
   row-t : nodes.listOf (listPart t) 1 ≡ row (m .lists) 1
   row-t =
       let l = lists.laid (m .lists) in
-      let r = mcl.read-laid (m .lists) (f .fair) in
+      let r = mcl.read-laid (m .lists) (f .valid) in
       let c : nodes.classes l ≡ 2 = mcl.out-sizes (length (m .lists .rows)) (m .lists .entries) (lists.arcs (length (m .lists .rows)) 0 (m .lists .rows)) .0 ∙ f .classes in
       ap (λ (z : List ℕ). nodes.listOf z 1) part-t ∙ sym (list-at l 1 (omega (arith, c))) ∙ ap (λ (z : Lists). row z 1) r
 
@@ -178,7 +178,7 @@ module _ (m : Keys) (b : List ℕ) (y : Bytes b) (f : FairKeys m) (fit : length 
         few = omega (arith, entries-t, sizes .1);
         len = has .len ∙ sym (ap (λ (z : ℕ). keysLength z (entries t)) kMax-t ∙ ap (keysLength (m .kMax)) entries-t);
         two = ap (λ (z : List ℕ). nodes.classes z) part-t ∙ mcl.out-sizes (length (m .lists .rows)) (m .lists .entries) (lists.arcs (length (m .lists .rows)) 0 (m .lists .rows)) .0 ∙ f .classes;
-        lists = ap nodes.wholeB part-t ∙ mcl.laid-whole (m .lists) (f .fair);
+        lists = ap nodes.wholeB part-t ∙ mcl.laid-whole (m .lists) (f .valid);
         slots = λ i h.
             let l : i < n = omega (arith, entries-t) in
             rw (slot-t i l)
@@ -200,10 +200,10 @@ module _ (m : Keys) (b : List ℕ) (y : Bytes b) (f : FairKeys m) (fit : length 
       ap (λ (z : ℕ). each z (slotAt t)) entries-t ∙ each-same n (slotAt t) (slot m) slot-t ∙ each-getD free (m .slots) in
       ap (λ (z : ℕ). keys z (each (entries t) (slotAt t)) (nodes.read (listPart t))) kMax-t
       ∙ ap (λ (z : List Slot). keys (m .kMax) z (nodes.read (listPart t))) s
-      ∙ ap (keys (m .kMax) (m .slots)) (ap (λ (z : List ℕ). nodes.read z) part-t ∙ mcl.read-laid (m .lists) (f .fair))
+      ∙ ap (keys (m .kMax) (m .slots)) (ap (λ (z : List ℕ). nodes.read z) part-t ∙ mcl.read-laid (m .lists) (f .valid))
 
   pub laid-bytes : Bytes (laid m b)
   unfolding t n inds
   laid-bytes =
-      has-bytes n (m .kMax) b (lists.laid (m .lists)) t W vals inds has y (mcl.whole-bytes (lists.laid (m .lists)) (mcl.laid-whole (m .lists) (f .fair)))
+      has-bytes n (m .kMax) b (lists.laid (m .lists)) t W vals inds has y (mcl.whole-bytes (lists.laid (m .lists)) (mcl.laid-whole (m .lists) (f .valid)))
       (λ j h. index-fits n (index n b j) (found m j) j (m .slots) refl (sizes .1) (y (8 + 8 * n + j)) (looks j (m .slots)))

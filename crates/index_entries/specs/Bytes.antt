@@ -5,7 +5,7 @@
 --             8192 and the key: its value was handed back; from 16384 on: no key
 --   8 + 4 N   for each entry its value, four bytes, low byte first
 --   8 + 8 N   for each key its entry; a byte from N on: none
--- and 0 to 3 bytes that say nothing, as the value of an entry without one.
+-- and 0 to 3 bytes that say nothing. The value of an entry that has none says nothing either.
 use Prim.Native.Nat.{ℕ, _+_, _-_, _*_}
 use mathlib.Core.List.{List}
 use mathlib.Core.Bool.{Bool, true, cond, _&&_, not}

@@ -7,7 +7,7 @@ use lib.ListN.{length, getD, set, replicate}
 use lib.Dec.{eqb}
 use Rattle.state.specs.Lengths.{keysAllowed}
 use Rattle.state.specs.Seq.{each}
-use Rattle.multi_cycle_list.specs.Lists.{Lists, Fair, count, row}
+use Rattle.multi_cycle_list.specs.Lists.{Lists, Valid, count, row}
 
 -- an entry has no key; or a key and its value; or a key whose value was handed back
 pub data Slot : Type 0 where
@@ -52,14 +52,14 @@ Within kMax free = Unit {0}
 Within kMax (holds k v) = (k ≤ kMax) × (v < 2 ^ 32)
 Within kMax (spent k) = k ≤ kMax
 
--- whole, on the plain meaning: no two entries have one key, and the free entries are those without a key
-pub record FairKeys (m : Keys) : Type 0 where
+-- whole, on the plain meaning: no two entries have the same key, and the free entries are those without a key
+pub record ValidKeys (m : Keys) : Type 0 where
   pub sizes : keysAllowed (m .kMax) (length (m .slots)) ≡ true
   pub within : (i : ℕ) → Within (m .kMax) (slot m i)
   pub distinct : (i j k : ℕ) → hasKey k (slot m i) ≡ true → hasKey k (slot m j) ≡ true → i ≡ j
   pub classes : length (m .lists .rows) ≡ 2
   pub entries : m .lists .entries ≡ length (m .slots)
-  pub fair : Fair (m .lists)
+  pub valid : Valid (m .lists)
   pub free-listed : (i : ℕ) → i < length (m .slots) → isFree (slot m i) ≡ true → 0 < count i (row (m .lists) 1)
   pub listed-free : (i : ℕ) → 0 < count i (row (m .lists) 1) → isFree (slot m i) ≡ true
 

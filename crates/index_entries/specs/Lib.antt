@@ -2,4 +2,3 @@ pub mod Keys
 pub mod Bytes
 pub mod Laid
 pub mod Inner
-pub mod Answers

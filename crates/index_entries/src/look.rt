@@ -5,8 +5,9 @@ ghost use Prim.Native.Nat.{_+_, _<_};
 ghost use lib.ListN.{length};
 ghost use Rattle.index_entries.specs.Keys.{slot, found};
 ghost use Rattle.index_entries.specs.Bytes.{wordAt, entries, value, read, wholeB};
-ghost use Rattle.index_entries.specs.Answers.{placeOf, heldOf};
+ghost use Rattle.index_entries.specs.Inner.{placeOf, heldOf};
 
+// The entry that has a key, or none.
 pub enum Place {
     At(usize),
     Nowhere,

@@ -11,20 +11,20 @@ use borrow.Author.Tests.{lt-ltb, le-ltb, lt-leb, eq-eqb, ne-eqb}
 use Rattle.state.specs.Lengths.{keysAllowed, keysLength}
 use Rattle.state.specs.Result.{Result, refuse, done, answer, Bytes}
 use Rattle.state.proofs.Calls.{Ends, not-whole, is-whole, refused, laid-out}
-use Rattle.multi_cycle_list.specs.Lists.{Lists, Fair, count, row, first, last, without-entry, movedFront, movedBack}
+use Rattle.multi_cycle_list.specs.Lists.{Lists, Valid, count, row, first, last, without-entry, movedFront, movedBack}
 use Rattle.multi_cycle_list.specs.Nodes as nodes
 use Rattle.multi_cycle_list.specs.declared.inner.MaybeEntry.{MaybeEntry}
 use Rattle.multi_cycle_list.specs.declared.inner.MaybeEntry.the-variants.{Some, None}
 use Rattle.multi_cycle_list.proofs.Lists.{In, in-count}
 use Rattle.multi_cycle_list.proofs.Arcs.{row-count}
-use Rattle.index_entries.specs.Keys.{Slot, free, holds, spent, Keys, hasKey, isFree, slot, Found, missing, at, found, FairKeys, withLists, changed, fresh}
+use Rattle.index_entries.specs.Keys.{Slot, free, holds, spent, Keys, hasKey, isFree, slot, Found, missing, at, found, ValidKeys, withLists, changed, fresh}
 use Rattle.index_entries.specs.Bytes.{kMax, entries, keyWord, value, read, wholeB}
 use Rattle.index_entries.specs.Laid.{laid}
-use Rattle.index_entries.specs.Answers.{placeOf, heldOf}
+use Rattle.index_entries.specs.Inner.{placeOf, heldOf}
 use Rattle.index_entries.specs.declared.look.Place.the-variants.{At, Nowhere}
 use Rattle.index_entries.specs.declared.look.Held.the-variants as held-is
 use Rattle.index_entries.proofs.Find.{Looks, looks, key-not-free}
-use Rattle.index_entries.proofs.Facts.{facts-of, slot-in, slots-length, by-word, read-fair, laid-read}
+use Rattle.index_entries.proofs.Facts.{facts-of, slot-in, slots-length, by-word, read-valid, laid-read}
 use Rattle.index_entries.proofs.Acts.{lent-part}
 use Rattle.index_queue.specs.Calls.{contains, valueIn, get, storedIn, getMut, insertNew, insertIn, insert, removeIn, remove, keyAt, front, back, enqueueFront, enqueueBack, dequeue, opening, on, bytes, openedBytes}
 use Rattle.index_queue.specs.declared.Answer.{Answer}
@@ -204,16 +204,16 @@ last-in-list (x ∷ []) i q = inl (cc)
 last-in-list (x ∷ (y ∷ ys)) i q = inr (last-in-list (y ∷ ys) i q)
 
 -- an entry that stands in a list is one
-pub in-size : (m : Lists) → Fair m → (c i : ℕ) → 0 < count i (row m c) → i < m .entries
+pub in-size : (m : Lists) → Valid m → (c i : ℕ) → 0 < count i (row m c) → i < m .entries
 in-size m f c i h = elim (decLt i (m .entries)) [ yes q ↦ q | no q ↦ absurd (omega (arith, f .inside i (omega arith), row-count i (m .rows) c)) ]
 
 module _ (s : List ℕ) (y : Bytes s) (h : wholeB s ≡ true) where
-  r : FairKeys (read s)
-  r = read-fair s (facts-of s h) y
+  r : ValidKeys (read s)
+  r = read-valid s (facts-of s h) y
 
   listed-entry : (c i : ℕ) → 0 < count i (row (read s .lists) c) → i < entries s
   unfolding r
-  listed-entry c i q = omega (arith, in-size (read s .lists) (r .fair) c i q, r .entries, slots-length s)
+  listed-entry c i q = omega (arith, in-size (read s .lists) (r .valid) c i q, r .entries, slots-length s)
 
   pub first-entry : (c i : ℕ) → first (row (read s .lists) c) ≡ Some i → i < entries s
   first-entry c i q = listed-entry c i (first-in (row (read s .lists) c) i q)

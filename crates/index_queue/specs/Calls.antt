@@ -12,7 +12,7 @@ use Rattle.multi_cycle_list.specs.Lists as lists
 use Rattle.multi_cycle_list.specs.Lists.{row, first, last, without-entry, movedFront, movedBack}
 use Rattle.multi_cycle_list.specs.declared.inner.MaybeEntry.{MaybeEntry}
 use Rattle.multi_cycle_list.specs.declared.inner.MaybeEntry.the-variants.{Some, None}
-use Rattle.index_entries.specs.Keys.{Slot, free, holds, spent, Keys, slot, Found, missing, at, found, FairKeys, withSlot, withLists, changed, fresh}
+use Rattle.index_entries.specs.Keys.{Slot, free, holds, spent, Keys, slot, Found, missing, at, found, ValidKeys, withSlot, withLists, changed, fresh}
 use Rattle.index_entries.specs.Bytes.{wholeB, read}
 use Rattle.index_entries.specs.Laid.{laid}
 use Rattle.index_queue.specs.declared.Answer.{Answer}
@@ -27,7 +27,7 @@ isAt (at i s) = true
 unfoldable pub contains : ℕ → Keys → Result Answer Keys
 contains k m = done (Holds (isAt (found m k))) m
 
--- the value found. Where it was handed back the papers leave the answer open: here there is none
+-- the value found. Where it was handed back document 01 leaves the answer open: here there is none
 abbrev pub valueIn : Found → Answer
 valueIn missing = Nothing
 valueIn (at i free) = Nothing
@@ -37,7 +37,7 @@ valueIn (at i (spent k)) = Nothing
 unfoldable pub get : ℕ → Keys → Result Answer Keys
 get k m = done (valueIn (found m k)) m
 
--- `get_mut` as a store: the value v where the key has one, and whether it was stored. Open in the papers, as for `get`, where it was handed back
+-- `get_mut` as a store: the value v where the key has one, and whether it was stored. Open in document 01, as for `get`, where it was handed back
 abbrev pub storedIn : ℕ → Keys → Found → Result Answer Keys
 storedIn v m missing = done (Holds false) m
 storedIn v m (at i free) = done (Holds false) m
@@ -142,4 +142,4 @@ Sized m n = n ≡ keysLength (m .kMax) (length (m .slots))
 pub record KeysMean : Type 0 where
   -- opened bytes are whole
   pub opened : (n k e : ℕ) (a : Answer) (m : Keys) → opening n k e ≡ done a m → wholeB (laid m (replicate n 255)) ≡ true
-  pub meaning : Means wholeB read laid (Refused 1) FairKeys Sized step
+  pub meaning : Means wholeB read laid (Refused 1) ValidKeys Sized step

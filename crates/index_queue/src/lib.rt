@@ -27,6 +27,7 @@ ghost use Rattle.index_entries.specs.Keys.{found, missing, slot};
 ghost use Rattle.index_entries.specs.Bytes.{wholeB, read, entries, kMax};
 ghost use Rattle.index_queue.specs.Calls.{on, bytes, openedBytes, opening, contains, get, getMut, insert, insertNew, remove, front, back, keyIn, enqueueFront, enqueueBack, dequeue, KeysMean};
 
+// An answer of a call. `NotTaken` has the key and the value of an insert; `Holds`, whether the key has an entry, or the value was stored.
 pub enum Answer {
     Refused(u8),
     NotTaken(u16, u32),
@@ -68,7 +69,7 @@ pub fn contains(s: &[u8], key: u16) -> Answer
     }
 }
 
-// The papers leave open what is answered where the value was handed back: here, that there is none.
+// Document 01 leaves open what is answered where the value was handed back: here, that there is none.
 pub fn get(s: &[u8], key: u16) -> Answer
     ensures { λ r. ⌜ r ≡ answer (on (get key) (now (s .entry))) ⌝ }
 {
@@ -89,7 +90,7 @@ pub fn get(s: &[u8], key: u16) -> Answer
     }
 }
 
-// Stores `value` where the key has one, and tells whether. Open in the papers, as for `get`, where the value was handed back: nothing is stored.
+// Stores `value` where the key has one, and tells whether. Open in document 01, as for `get`, where the value was handed back: nothing is stored.
 pub fn get_mut(s: &mut [u8], key: u16, value: u32) -> Answer
     ensures { λ r. ⌜ (r ≡ answer (on (getMut key value) (now (s .entry)))) × (now (s .exit) ≡ bytes (now (s .entry)) (on (getMut key value) (now (s .entry)))) ⌝ }
 {

@@ -1,4 +1,4 @@
--- What the inner functions are told. No contract of a public call cites this.
+-- What the inner functions require and answer. No contract of a public call cites this.
 use Prim.Native.Nat.{ℕ, _+_, _*_, _/_, _<_, _≤_}
 use mathlib.Core.Path.{_≡_}
 use mathlib.Core.List.{List}

@@ -1,22 +1,13 @@
 // Whether bytes are a whole key queue.
+use index_entries::look::word;
 use multi_cycle_list::whole::whole_marked;
 ghost use mathlib.Core.Path.{_≡_};
 ghost use Prim.Native.Nat.{_+_, _<_, _≤_};
 ghost use lib.ListN.{length};
 ghost use Rattle.state.specs.Seq.{allB};
 ghost use Rattle.multi_cycle_list.specs.Inner.{unmarked};
-ghost use Rattle.index_entries.specs.Bytes.{kMax, entries, wordAt, slotAt, sizesB, slotB, keyB, wholeB};
+ghost use Rattle.index_entries.specs.Bytes.{kMax, entries, slotAt, sizesB, slotB, keyB, wholeB};
 ghost use Rattle.index_whole.specs.Inner.{Sized, Freed, Listed};
-
-// Two bytes, the low one first.
-fn word(s: &[u8], j: usize) -> usize
-    requires { ⌜ j + 1 < length (now s) ⌝ }
-    ensures { λ r. ⌜ r ≡ wordAt (now (s .entry)) j ⌝ }
-{
-    let low = s[j] as usize;
-    let high = s[j + 1] as usize;
-    low + 256 * high
-}
 
 fn sizes(s: &[u8]) -> bool
     ensures { λ r. ⌜ r ≡ sizesB (now (s .entry)) ⌝ }

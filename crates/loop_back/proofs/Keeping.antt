@@ -65,5 +65,5 @@ module _ (m : Registry) (f : Facts m) where
       by-cond Left (ltb 8191 x) {a = refuse (Refused 3)} {b = done (Started (isSome w)) (withWalk w m)} (λ t. f) (λ t. walk-facts w (λ e. first-in x e (m .entries)))
   keeps HubPushNext = next-facts (m .walk)
 
-pub step-fair : (k : Call) (m : Registry) → registry.wholeB m ≡ true → registry.wholeB (left m (step k m)) ≡ true
-step-fair k m h = of-facts (left m (step k m)) (keeps m (facts-of m h) k)
+pub step-valid : (k : Call) (m : Registry) → registry.wholeB m ≡ true → registry.wholeB (left m (step k m)) ≡ true
+step-valid k m h = of-facts (left m (step k m)) (keeps m (facts-of m h) k)

@@ -1,4 +1,4 @@
--- Whatever is fair is laid out as whole bytes, which mean it; so the theorem of specs/Means.antt.
+-- Whatever is valid is laid out as whole bytes, which mean it; so the theorem of specs/Means.antt.
 use Prim.Native.Nat.{ℕ, zero, suc, _+_, _<_}
 use mathlib.Core.Path.{_≡_, refl, sym, ap, _∙_, subst}
 use mathlib.Core.List.{List, _∷_}
@@ -24,12 +24,12 @@ use Rattle.loop_back.specs.Registry.{Registry, fresh}
 use Rattle.loop_back.specs.Bytes.{treePart, wholeB, read, laid}
 use Rattle.loop_back.specs.Steps.{step}
 use Rattle.loop_back.specs.Calls.{opening}
-use Rattle.loop_back.specs.Means.{Fair, Sized, LoopBackMeans}
+use Rattle.loop_back.specs.Means.{Valid, Sized, LoopBackMeans}
 use Rattle.loop_back.specs.declared.Answer.{Answer}
 use Rattle.loop_back.specs.declared.Answer.the-variants.{Refused, Done}
 use Rattle.loop_back.proofs.Parts.{Joined, tree-is, byte-is, long, split, laid-joined, laid-from}
 use Rattle.loop_back.proofs.Facts.{Facts, facts-of, of-facts, at-most, whole-of, of-whole}
-use Rattle.loop_back.proofs.Keeping.{fresh-facts, step-fair}
+use Rattle.loop_back.proofs.Keeping.{fresh-facts, step-valid}
 
 -- ---- whole bytes are the bytes of what they mean
 
@@ -41,7 +41,7 @@ laid-read b y h = sym (laid-from (read b) b (split b (whole-of b h .long)) (tree
 
 -- ---- what is laid reads back
 
-module _ (m : Registry) (b : List ℕ) (y : Bytes b) (f : Fair m) (l : length b ≡ loopBackLength) where
+module _ (m : Registry) (b : List ℕ) (y : Bytes b) (f : Valid m) (l : length b ≡ loopBackLength) where
   w : Facts m
   w = facts-of m f
 
@@ -96,5 +96,5 @@ pub means : LoopBackMeans
 means =
     record {
       opened = opened;
-      meaning = means-of wholeB read laid (Refused 1) Fair Sized laid-bytes laid-whole read-laid step (λ b y h. whole-of b h .means) (λ b h. whole-of b h .long) laid-read step-fair (λ k m n f z. z);
+      meaning = means-of wholeB read laid (Refused 1) Valid Sized laid-bytes laid-whole read-laid step (λ b y h. whole-of b h .means) (λ b h. whole-of b h .long) laid-read step-valid (λ k m n f z. z);
     }

@@ -13,8 +13,8 @@ use Rattle.loop_back.specs.Calls.{opening}
 use Rattle.loop_back.specs.declared.Answer.{Answer}
 use Rattle.loop_back.specs.declared.Answer.the-variants.{Refused}
 
-abbrev pub Fair : Registry → Type 0
-Fair m = registry.wholeB m ≡ true
+abbrev pub Valid : Registry → Type 0
+Valid m = registry.wholeB m ≡ true
 
 abbrev pub Sized : Registry → ℕ → Type 0
 Sized m n = n ≡ loopBackLength
@@ -22,4 +22,4 @@ Sized m n = n ≡ loopBackLength
 pub record LoopBackMeans : Type 0 where
   -- opened bytes are whole
   pub opened : (b : ℕ) (a : Answer) (m : Registry) → opening b ≡ done a m → wholeB (laid m (replicate b 0)) ≡ true
-  pub meaning : Means wholeB read laid (Refused 1) Fair Sized step
+  pub meaning : Means wholeB read laid (Refused 1) Valid Sized step

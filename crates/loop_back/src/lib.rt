@@ -1,5 +1,5 @@
-// `LoopBackInner` over lent bytes: the answers, whether bytes are whole, and what the calls do once they are. Inner: these cross crates
-// and may require.
+// `LoopBackInner` over lent bytes: the answers, whether bytes are whole, and what the calls do once they are. Inner
+// functions: other crates call them, and they may have preconditions.
 use entry_tree::insert;
 use entry_tree::remove;
 use entry_tree::walk::Walk;
@@ -30,7 +30,7 @@ pub enum Answer {
     NotPushed,
 }
 
-// What is proved of the loop-back registry's bytes and calls.
+// Does nothing: its contract is the theorem of specs/Means.antt.
 pub fn meaning()
     ensures { λ _. ⌜ LoopBackMeans ⌝ }
 {}

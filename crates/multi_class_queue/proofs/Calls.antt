@@ -16,7 +16,7 @@ use Rattle.state.specs.Result.{Result, refuse, done, answer, left}
 use Rattle.state.proofs.Tests.{not-both, false-of, and-l, and-r}
 use Rattle.state.proofs.Calls.{Ends, not-whole, refused, laid-out, means-of}
 use Rattle.multi_cycle_list.specs.Nodes.{classes, entries, next, prev, wholeB, listOf, listsOf, read}
-use Rattle.multi_cycle_list.specs.Lists.{Lists, Fair, without, removed, pushedFront, pushedBack, withRows, without-entry, movedFront, movedBack, empty, row, first, last}
+use Rattle.multi_cycle_list.specs.Lists.{Lists, Valid, without, removed, pushedFront, pushedBack, withRows, without-entry, movedFront, movedBack, empty, row, first, last}
 use Rattle.multi_class_queue.specs.Inner.{refusal}
 use Rattle.multi_class_queue.specs.Calls.{inSize, named, isNone, says, which, front, back, isEmpty, isFront, isBack, remove, moveFront, moveBack, opening}
 use Rattle.multi_cycle_list.specs.Laid.{laid}
@@ -28,8 +28,8 @@ use Rattle.multi_cycle_list.proofs.Chain.{Chain}
 use Rattle.multi_cycle_list.proofs.Sound.{linked-in, sound}
 use Rattle.multi_cycle_list.proofs.Meaning.{list-at}
 use Rattle.multi_cycle_list.proofs.FreshMeaning.{opened}
-use Rattle.multi_cycle_list.proofs.Laid.{laid-read, laid-whole, read-laid, read-fair, whole-bytes}
-use Rattle.multi_cycle_list.proofs.Changes.{rows-length, remove-fair, front-fair, back-fair, empty-fair}
+use Rattle.multi_cycle_list.proofs.Laid.{laid-read, laid-whole, read-laid, read-valid, whole-bytes}
+use Rattle.multi_cycle_list.proofs.Changes.{rows-length, remove-valid, front-valid, back-valid, empty-valid}
 
 module _ (s : List ℕ) (c : ℕ) (h : wholeB s ≡ true) (hc : c < classes s) where
   none-of : (es : List ℕ) → Chain (classes s) (next s) (prev s) c es c → Holds (ltb (next s c) (classes s)) ≡ Holds (isNone (first es))
@@ -283,33 +283,33 @@ opened-whole : (n c e : ℕ) (a : Answer) (m : Lists) → opening n c e ≡ done
 unfolding opening
 opened-whole n c e a m q =
     let i = open-inv (listsAllowed c e) (eqb n (listsLength c e)) (empty c e) a m q in
-    subst (λ (x : Lists). wholeB (laid x) ≡ true) (i .1) (laid-whole (empty c e) (empty-fair c e (i .0)))
+    subst (λ (x : Lists). wholeB (laid x) ≡ true) (i .1) (laid-whole (empty c e) (empty-valid c e (i .0)))
 
--- ---- each call keeps lists fair, and their sizes
+-- ---- each call keeps lists valid, and their sizes
 
-sized-fair : (b : Bool) (a : Answer) (m m′ : Lists) → Fair m → (b ≡ true → Fair m′) → Fair (left m (inSize b (done a m′)))
-sized-fair true a m m′ f g = g refl
-sized-fair false a m m′ f g = f
+sized-valid : (b : Bool) (a : Answer) (m m′ : Lists) → Valid m → (b ≡ true → Valid m′) → Valid (left m (inSize b (done a m′)))
+sized-valid true a m m′ f g = g refl
+sized-valid false a m m′ f g = f
 
-module _ (m : Lists) (f : Fair m) where
-  unchanged : (b : Bool) (a : Answer) → Fair (left m (inSize b (done a m)))
-  unchanged b a = sized-fair b a m m f (λ z. f)
+module _ (m : Lists) (f : Valid m) where
+  unchanged : (b : Bool) (a : Answer) → Valid (left m (inSize b (done a m)))
+  unchanged b a = sized-valid b a m m f (λ z. f)
 
-  moved : (c e : ℕ) (n : Lists) → (e < m .entries → c < length (m .rows) → Fair n) → Fair (left m (inSize (ltb c (length (m .rows)) && ltb e (m .entries)) (done Done n)))
+  moved : (c e : ℕ) (n : Lists) → (e < m .entries → c < length (m .rows) → Valid n) → Valid (left m (inSize (ltb c (length (m .rows)) && ltb e (m .entries)) (done Done n)))
   moved c e n g =
-      sized-fair (ltb c (length (m .rows)) && ltb e (m .entries)) Done m n f (λ z.
+      sized-valid (ltb c (length (m .rows)) && ltb e (m .entries)) Done m n f (λ z.
       g (ltb-true e (m .entries) (and-r (ltb c (length (m .rows))) _ z)) (ltb-true c (length (m .rows)) (and-l _ (ltb e (m .entries)) z)))
 
-step-fair : (k : Call) (m : Lists) → Fair m → Fair (left m (step k m))
+step-valid : (k : Call) (m : Lists) → Valid m → Valid (left m (step k m))
 unfolding front back isEmpty isFront isBack remove moveFront moveBack
-step-fair (Front c) m f = unchanged m f (ltb c (length (m .rows))) (named (first (row m c)))
-step-fair (Back c) m f = unchanged m f (ltb c (length (m .rows))) (named (last (row m c)))
-step-fair (IsEmpty c) m f = unchanged m f (ltb c (length (m .rows))) (Holds (isNone (first (row m c))))
-step-fair (IsFront e) m f = unchanged m f (ltb e (m .entries)) (which (λ r. says e (first r)) 0 (m .rows))
-step-fair (IsBack e) m f = unchanged m f (ltb e (m .entries)) (which (λ r. says e (last r)) 0 (m .rows))
-step-fair (Remove e) m f = sized-fair (ltb e (m .entries)) Done m (without-entry e m) f (λ z. remove-fair m f e (ltb-true e (m .entries) z))
-step-fair (MoveFront c e) m f = moved m f c e (movedFront c e m) (λ he hc. front-fair m f e he c hc)
-step-fair (MoveBack c e) m f = moved m f c e (movedBack c e m) (λ he hc. back-fair m f e he c hc)
+step-valid (Front c) m f = unchanged m f (ltb c (length (m .rows))) (named (first (row m c)))
+step-valid (Back c) m f = unchanged m f (ltb c (length (m .rows))) (named (last (row m c)))
+step-valid (IsEmpty c) m f = unchanged m f (ltb c (length (m .rows))) (Holds (isNone (first (row m c))))
+step-valid (IsFront e) m f = unchanged m f (ltb e (m .entries)) (which (λ r. says e (first r)) 0 (m .rows))
+step-valid (IsBack e) m f = unchanged m f (ltb e (m .entries)) (which (λ r. says e (last r)) 0 (m .rows))
+step-valid (Remove e) m f = sized-valid (ltb e (m .entries)) Done m (without-entry e m) f (λ z. remove-valid m f e (ltb-true e (m .entries) z))
+step-valid (MoveFront c e) m f = moved m f c e (movedFront c e m) (λ he hc. front-valid m f e he c hc)
+step-valid (MoveBack c e) m f = moved m f c e (movedBack c e m) (λ he hc. back-valid m f e he c hc)
 
 same-size : (b : Bool) (a : Answer) (m : Lists) (rs : List (List ℕ)) → length rs ≡ length (m .rows) → (n : ℕ) → Sized m n → Sized (left m (inSize b (done a (withRows m rs)))) n
 same-size true a m rs q n z = z ∙ ap (λ (k : ℕ). listsLength k (m .entries)) (sym q)
@@ -318,7 +318,7 @@ same-size false a m rs q n z = z
 removed-length : (e : ℕ) (rs : List (List ℕ)) → length (removed e rs) ≡ length rs
 removed-length e rs = length-map rs (without e)
 
-step-sized : (k : Call) (m : Lists) (n : ℕ) → Fair m → Sized m n → Sized (left m (step k m)) n
+step-sized : (k : Call) (m : Lists) (n : ℕ) → Valid m → Sized m n → Sized (left m (step k m)) n
 unfolding front back isEmpty isFront isBack remove moveFront moveBack
 step-sized (Front c) m n f z = same-size (ltb c (length (m .rows))) (named (first (row m c))) m (m .rows) refl n z
 step-sized (Back c) m n f z = same-size (ltb c (length (m .rows))) (named (last (row m c))) m (m .rows) refl n z
@@ -336,7 +336,7 @@ pub mean : ListsMean
 mean =
     record {
       opened = opened-whole;
-      meaning = means-of wholeB read over (Refused 1) Fair Sized (λ m b y f z. whole-bytes (laid m) (laid-whole m f)) (λ m b y f z. laid-whole m f) (λ m b y f z. read-laid m f) step (λ b y h. read-fair b h) read-sized (λ b y h. laid-read b h) step-fair step-sized;
+      meaning = means-of wholeB read over (Refused 1) Valid Sized (λ m b y f z. whole-bytes (laid m) (laid-whole m f)) (λ m b y f z. laid-whole m f) (λ m b y f z. read-laid m f) step (λ b y h. read-valid b h) read-sized (λ b y h. laid-read b h) step-valid step-sized;
     }
 
 -- ---- the ends that every call has

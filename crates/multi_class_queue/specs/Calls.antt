@@ -8,7 +8,7 @@ use lib.Dec.{ltb, eqb}
 use Rattle.state.specs.Lengths.{listsAllowed, listsLength}
 use Rattle.state.specs.Result as state
 use Rattle.state.specs.Result.{Result, refuse, done, Means}
-use Rattle.multi_cycle_list.specs.Lists.{Lists, Fair, row, first, last, empty, without-entry, movedFront, movedBack}
+use Rattle.multi_cycle_list.specs.Lists.{Lists, Valid, row, first, last, empty, without-entry, movedFront, movedBack}
 use Rattle.multi_cycle_list.specs.Nodes.{wholeB, read}
 use Rattle.multi_cycle_list.specs.Laid.{laid}
 use Rattle.multi_cycle_list.specs.declared.inner.MaybeEntry.{MaybeEntry}
@@ -111,4 +111,4 @@ Sized m n = n ≡ listsLength (length (m .rows)) (m .entries)
 pub record ListsMean : Type 0 where
   -- opened bytes are whole
   pub opened : (n c e : ℕ) (a : Answer) (m : Lists) → opening n c e ≡ done a m → wholeB (laid m) ≡ true
-  pub meaning : Means wholeB read over (Refused 1) Fair Sized step
+  pub meaning : Means wholeB read over (Refused 1) Valid Sized step

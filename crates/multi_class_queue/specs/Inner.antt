@@ -6,5 +6,6 @@ use lib.ListN.{getD}
 use lib.Dec.{ltb}
 use Rattle.multi_cycle_list.specs.Nodes.{wholeB}
 
+-- the refusal of a call whose class, or entry, x is to be below the size in byte i; or 0
 abbrev pub refusal : List ℕ → ℕ → ℕ → ℕ
 refusal b i x = cond (wholeB b) (cond (ltb x (getD b i 0)) 0 13) 1

@@ -14,6 +14,7 @@ ghost use Rattle.state.specs.Result.{answer};
 ghost use Rattle.multi_class_queue.specs.Inner.{refusal};
 ghost use Rattle.multi_class_queue.specs.Calls.{named, on, bytes, opening, front, back, isEmpty, isFront, isBack, remove, moveFront, moveBack, ListsMean};
 
+// An answer of a call. `Is` has the entry, or the class, asked for; `Holds`, whether the class is empty.
 pub enum Answer {
     Refused(u8),
     Done,

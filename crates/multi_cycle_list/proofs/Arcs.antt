@@ -1,4 +1,4 @@
--- The arcs of fair lists link each node once each way: they stand for the lists.
+-- The arcs of valid lists link each node once each way: they stand for the lists.
 use Prim.Native.Nat.{ℕ, zero, suc, _+_, _-_, _<_, _≤_, zero-le}
 use mathlib.Core.Path.{_≡_, refl, sym, ap, _∙_, subst}
 use mathlib.Core.Logic.{_≢_, _⊎_, inl, inr, ⊎-elim}
@@ -211,7 +211,7 @@ module _ (C : ℕ) where
   path-chain nx pv [] a b h = h a b (inl (refl, refl))
   path-chain nx pv (e ∷ es) a b h = (h a (C + e) (inl (refl, refl)), path-chain nx pv es (C + e) b (λ x y w. h x y (inr w)))
 
--- ---- the arcs of fair lists stand for them
+-- ---- the arcs of valid lists stand for them
 
 module _ (E : ℕ) (rs : List (List ℕ)) (inside : (e : ℕ) → E ≤ e → counts e rs ≡ 0) (once : (e : ℕ) → counts e rs ≤ 1) where
   single : (i : ℕ) → (outs (arcs (length rs) 0 rs) i ≤ 1) × (ins (arcs (length rs) 0 rs) i ≤ 1)

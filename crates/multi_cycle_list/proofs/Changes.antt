@@ -6,7 +6,7 @@ use mathlib.Core.List.{List, [], _∷_, _++_}
 use mathlib.Core.Bool.{true, not}
 use native.Mathlib.Omega.{arith}
 use native.Mathlib.Decide.{decLt}
-use lib.ListN.{length, getD, set, replicate, length-replicate}
+use lib.ListN.{length, getD, set, drop, replicate, length-replicate}
 use lib.Dec.{ltb, eqb}
 use borrow.Author.Tests.{lt-ltb, le-ltb, eq-eqb, ne-eqb}
 use Rattle.state.specs.Lengths.{listsAllowed, listsLength}
@@ -14,16 +14,17 @@ use Rattle.state.specs.Seq.{each}
 use Rattle.state.proofs.Seq.{length-each}
 use Rattle.multi_cycle_list.specs.Nodes.{classes, entries, next, prev, wholeB, listOf, listsOf, read}
 use Rattle.multi_cycle_list.specs.Inner.{unbindB, moveAfterB, moveBeforeB, aloneTo}
-use Rattle.multi_cycle_list.specs.Lists.{Lists, Fair, counts, row, first, last, removed, pushedFront, pushedBack, withRows, without-entry, movedFront, movedBack, empty}
+use Rattle.multi_cycle_list.specs.Lists.{Lists, Valid, counts, row, first, last, removed, pushedFront, pushedBack, withRows, without-entry, movedFront, movedBack, empty}
 use Rattle.multi_cycle_list.specs.Laid.{laid}
 use Rattle.multi_cycle_list.proofs.WholeTools.{whole-sizes, allowed-of}
-use Rattle.multi_cycle_list.proofs.Lists.{In, in-count}
+use Rattle.multi_cycle_list.specs.declared.inner.MaybeEntry.the-variants.{Some}
+use Rattle.multi_cycle_list.proofs.Lists.{Below, In, in-count}
 use Rattle.multi_cycle_list.proofs.Chain.{Chain, tail-from}
 use Rattle.multi_cycle_list.proofs.Arcs.{row-count, counts-in}
 use Rattle.multi_cycle_list.proofs.Sound.{sound}
-use Rattle.multi_cycle_list.proofs.Meaning.{Turned, turned-whole, turned-lists, unbound, removed-is, front-turned, back-turned, pushed-is, taken-is, list-at, asEntry, first-of, last-of}
+use Rattle.multi_cycle_list.proofs.Meaning.{Turned, turned-whole, turned-lists, unbound, removed-is, front-turned, back-turned, pushed-is, taken-is, list-at, asEntry, first-from, first-of, last-of}
 use Rattle.multi_cycle_list.proofs.FreshMeaning.{opened}
-use Rattle.multi_cycle_list.proofs.Laid.{lists, laid-read, laid-whole, read-laid, read-fair}
+use Rattle.multi_cycle_list.proofs.Laid.{lists, laid-read, laid-whole, read-laid, read-valid}
 
 pub rows-length : (s : List ℕ) → length (listsOf s) ≡ classes s
 unfolding listsOf
@@ -34,6 +35,22 @@ rows-length s = length-each (classes s) (listOf s)
 module _ (s : List ℕ) (c : ℕ) (h : wholeB s ≡ true) (hc : c < classes s) where
   pub front-is : asEntry s (next s c) ≡ first (row (read s) c)
   front-is = first-of s c (listOf s c) hc (sound s h .chains c hc) ∙ ap first (sym (list-at s c hc))
+
+  -- behind the front e
+  pub second-is : (e : ℕ) → first (row (read s) c) ≡ Some e → asEntry s (next s (classes s + e)) ≡ first (drop 1 (row (read s) c))
+  second-is e q = go (listOf s c) (sound s h .chains c hc) (ap first (sym (list-at s c hc)) ∙ q) ∙ ap (λ (l : List ℕ). first (drop 1 l)) (sym (list-at s c hc))
+    where
+      go : (l : List ℕ) → Chain (classes s) (next s) (prev s) c l c → first l ≡ Some e → asEntry s (next s (classes s + e)) ≡ first (drop 1 l)
+      go [] p z = absurd (let o : _≡_ {A = ℕ} 0 1 = cc in omega arith)
+      go (x ∷ l) p z = let y : x ≡ e = cc in ap (λ (k : ℕ). asEntry s (next s (classes s + k))) (sym y) ∙ first-from s (classes s + x) c l hc (p .1)
+
+  -- the front is an entry
+  pub front-in : (e : ℕ) → first (row (read s) c) ≡ Some e → e < entries s
+  front-in e q = go (listOf s c) (sound s h .inside c hc) (ap first (sym (list-at s c hc)) ∙ q)
+    where
+      go : (l : List ℕ) → Below (entries s) l → first l ≡ Some e → e < entries s
+      go [] p z = absurd (let o : _≡_ {A = ℕ} 0 1 = cc in omega arith)
+      go (x ∷ l) p z = let y : x ≡ e = cc in omega (arith, p .0)
 
   pub back-is : asEntry s (prev s c) ≡ last (row (read s) c)
   back-is = last-of s c (listOf s c) hc (sound s h .chains c hc) ∙ ap last (sym (list-at s c hc))
@@ -72,16 +89,16 @@ module _ (s : List ℕ) (e : ℕ) (h : wholeB s ≡ true) (he : e < entries s) w
 turned-read : (s t : List ℕ) (ls : ℕ → List ℕ) → Turned s t ls → (rs : List (List ℕ)) → each (classes s) ls ≡ rs → read t ≡ withRows (read s) rs
 turned-read s t ls w rs q = ap (λ (e : ℕ). lists e (listsOf t)) (w .same .es) ∙ ap (lists (entries s)) (turned-lists s t ls w ∙ q)
 
--- so t is what is laid out, and what is laid out is fair
+-- so t is what is laid out, and what is laid out is valid
 pub record Lays (t : List ℕ) (m : Lists) : Type 0 where
   pub is : t ≡ laid m
-  pub fair : Fair m
+  pub valid : Valid m
 
 turned-laid : (s t : List ℕ) (ls : ℕ → List ℕ) → wholeB s ≡ true → Turned s t ls → (rs : List (List ℕ)) → each (classes s) ls ≡ rs → Lays t (withRows (read s) rs)
 turned-laid s t ls h w rs q =
     let z = turned-whole s t ls (whole-sizes s h) w in
     let r = turned-read s t ls w rs q in
-    record { is = sym (laid-read t z) ∙ ap (λ (m : Lists). laid m) r; fair = subst (λ (m : Lists). Fair m) r (read-fair t z) }
+    record { is = sym (laid-read t z) ∙ ap (λ (m : Lists). laid m) r; valid = subst (λ (m : Lists). Valid m) r (read-valid t z) }
 
 module _ (s : List ℕ) (e : ℕ) (h : wholeB s ≡ true) (he : e < entries s) where
   pub remove-laid : Lays (unbindB s (classes s + e)) (withRows (read s) (removed e (listsOf s)))
@@ -111,26 +128,26 @@ fresh s c e l n =
     let o = opened s c e (a .0) (a .1) (a .2) n in
     let t = aloneTo (set (set s 0 c) 1 e) (c + e) in
     let r : read t ≡ empty c e = ap (λ (k : ℕ). lists k (listsOf t)) (o .sized) ∙ ap (lists e) (o .empty ∙ each-empty c) in
-    record { is = sym (laid-read t (o .is-whole)) ∙ ap (λ (m : Lists). laid m) r; fair = subst (λ (m : Lists). Fair m) r (read-fair t (o .is-whole)) }
+    record { is = sym (laid-read t (o .is-whole)) ∙ ap (λ (m : Lists). laid m) r; valid = subst (λ (m : Lists). Valid m) r (read-valid t (o .is-whole)) }
 
--- ---- each change keeps lists fair
+-- ---- each change keeps lists valid
 
-module _ (m : Lists) (f : Fair m) (e : ℕ) (he : e < m .entries) where
+module _ (m : Lists) (f : Valid m) (e : ℕ) (he : e < m .entries) where
   entry-in : e < entries (laid m)
   entry-in = omega (arith, ap (λ (x : Lists). x .entries) (read-laid m f))
 
-  pub remove-fair : Fair (without-entry e m)
-  remove-fair = subst (λ (x : Lists). Fair (without-entry e x)) (read-laid m f) (remove-laid (laid m) e (laid-whole m f) entry-in .fair)
+  pub remove-valid : Valid (without-entry e m)
+  remove-valid = subst (λ (x : Lists). Valid (without-entry e x)) (read-laid m f) (remove-laid (laid m) e (laid-whole m f) entry-in .valid)
 
   module _ (c : ℕ) (hc : c < length (m .rows)) where
     class-in : c < classes (laid m)
     class-in = omega (arith, rows-length (laid m), ap (λ (x : Lists). length (x .rows)) (read-laid m f))
 
-    pub front-fair : Fair (movedFront c e m)
-    front-fair = subst (λ (x : Lists). Fair (movedFront c e x)) (read-laid m f) (front-laid (laid m) e (laid-whole m f) entry-in c class-in .fair)
+    pub front-valid : Valid (movedFront c e m)
+    front-valid = subst (λ (x : Lists). Valid (movedFront c e x)) (read-laid m f) (front-laid (laid m) e (laid-whole m f) entry-in c class-in .valid)
 
-    pub back-fair : Fair (movedBack c e m)
-    back-fair = subst (λ (x : Lists). Fair (movedBack c e x)) (read-laid m f) (back-laid (laid m) e (laid-whole m f) entry-in c class-in .fair)
+    pub back-valid : Valid (movedBack c e m)
+    back-valid = subst (λ (x : Lists). Valid (movedBack c e x)) (read-laid m f) (back-laid (laid m) e (laid-whole m f) entry-in c class-in .valid)
 
-pub empty-fair : (c e : ℕ) → listsAllowed c e ≡ true → Fair (empty c e)
-empty-fair c e h = fresh (replicate (listsLength c e) 0) c e h (length-replicate {A = ℕ} (listsLength c e) 0) .fair
+pub empty-valid : (c e : ℕ) → listsAllowed c e ≡ true → Valid (empty c e)
+empty-valid c e h = fresh (replicate (listsLength c e) 0) c e h (length-replicate {A = ℕ} (listsLength c e) 0) .valid

@@ -1,4 +1,4 @@
--- Whole bytes are the bytes of fair lists, and of one alone.
+-- Whole bytes are the bytes of valid lists, and of one alone.
 use Prim.Native.Nat.{ℕ, zero, suc, _+_, _-_, _*_, _<_, _≤_, zero-le}
 use mathlib.Core.Path.{_≡_, refl, sym, ap, _∙_, subst}
 use mathlib.Core.Logic.{_⊎_, inl, inr, ⊎-elim}
@@ -12,7 +12,7 @@ use lib.Seq.{ext-getD, getD-append-add}
 use Rattle.multi_cycle_list.specs.Nodes.{classes, entries, next, prev, wholeB, listOf, listsOf, read}
 use Rattle.state.specs.Seq.{each}
 use Rattle.state.specs.Result.{Bytes}
-use Rattle.multi_cycle_list.specs.Lists.{Lists, Fair, count, counts}
+use Rattle.multi_cycle_list.specs.Lists.{Lists, Valid, count, counts}
 use Rattle.multi_cycle_list.specs.Laid.{Arc, arcs, after, before, twos, laidOut, laid}
 use Rattle.multi_cycle_list.proofs.Lists.{In, Below, NoDup, count-same, count-other, count-in}
 use Rattle.multi_cycle_list.proofs.Chain.{Link, Chain, chain-nodup, one-class}
@@ -80,7 +80,7 @@ module _ (C E : ℕ) (nx pv nx′ pv′ : ℕ → ℕ) (n : (i : ℕ) → i < C 
 abbrev pub lists : ℕ → List (List ℕ) → Lists
 lists e rs = record { entries = e; rows = rs }
 
-module _ (m : Lists) (f : Fair m) where
+module _ (m : Lists) (f : Valid m) where
   laid-stands : Stands (laid m) (λ c. getD (m .rows) c [])
   laid-stands =
       let C = length (m .rows) in
@@ -120,7 +120,7 @@ module _ (m : Lists) (f : Fair m) where
       ∙ each-getD [] (m .rows) in
       ap (λ (e : ℕ). lists e (listsOf t)) (z .1) ∙ ap (lists E) q
 
--- ---- the lists of whole bytes are fair
+-- ---- the lists of whole bytes are valid
 
 nodup-count : (e : ℕ) (xs : List ℕ) → NoDup xs → count e xs ≤ 1
 unfolding count
@@ -161,9 +161,9 @@ counts-once e (suc n) f h u =
       | no q ↦ omega (arith, counts-once e n (λ k. f (suc k)) (λ c l. h (suc c) (omega arith)) (λ c d lc ld a b. omega (arith, u (suc c) (suc d) (omega arith) (omega arith) a b)))
     ]
 
-pub read-fair : (b : List ℕ) → wholeB b ≡ true → Fair (read b)
+pub read-valid : (b : List ℕ) → wholeB b ≡ true → Valid (read b)
 unfolding listsOf
-read-fair b h =
+read-valid b h =
     let z = whole-sizes b h in
     let r = sound b h in
     let C = classes b in
@@ -259,7 +259,7 @@ read-one s t hs ht q =
 
 pub laid-read : (b : List ℕ) → wholeB b ≡ true → laid (read b) ≡ b
 laid-read b h =
-    let f = read-fair b h in
+    let f = read-valid b h in
     read-one b (laid (read b)) h (laid-whole (read b) f) (read-laid (read b) f)
 
 pub whole-bytes : (b : List ℕ) → wholeB b ≡ true → Bytes b

@@ -121,11 +121,15 @@ pub list-at : (s : List ℕ) (c : ℕ) → c < classes s → getD (listsOf s) c 
 unfolding listsOf
 list-at s c hc = getD-each (classes s) (listOf s) c [] hc
 
-pub first-of : (s : List ℕ) (c : ℕ) (es : List ℕ) → c < classes s → Chain (classes s) (next s) (prev s) c es c → asEntry s (next s c) ≡ first es
-first-of s c [] hc p = rw (p .0, lt-ltb c (classes s) hc)
-first-of s c (x ∷ xs) hc p =
+-- the node after a, from which a chain leads to the class c
+pub first-from : (s : List ℕ) (a c : ℕ) (es : List ℕ) → c < classes s → Chain (classes s) (next s) (prev s) a es c → asEntry s (next s a) ≡ first es
+first-from s a c [] hc p = rw (p .0, lt-ltb c (classes s) hc)
+first-from s a c (x ∷ xs) hc p =
     let q : classes s + x - classes s ≡ x = omega arith in
     rw (p .0 .0, le-ltb (classes s + x) (classes s) (omega arith), q)
+
+pub first-of : (s : List ℕ) (c : ℕ) (es : List ℕ) → c < classes s → Chain (classes s) (next s) (prev s) c es c → asEntry s (next s c) ≡ first es
+first-of s c es hc p = first-from s c c es hc p
 
 pub lastNode : ℕ → ℕ → List ℕ → ℕ
 lastNode C a [] = a

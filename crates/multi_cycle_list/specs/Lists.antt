@@ -24,7 +24,7 @@ counts e [] = 0
 counts e (r ∷ rs) = count e r + counts e rs
 
 -- whole, on lists: the sizes are allowed, and each entry stands in at most one place
-pub record Fair (m : Lists) : Type 0 where
+pub record Valid (m : Lists) : Type 0 where
   pub sizes : listsAllowed (length (m .rows)) (m .entries) ≡ true
   pub inside : (e : ℕ) → m .entries ≤ e → counts e (m .rows) ≡ 0
   pub once : (e : ℕ) → counts e (m .rows) ≤ 1

@@ -1,4 +1,4 @@
-// What the calls do once the bytes are known whole and the class and the entry in the size. Inner: these cross crates and may require.
+// What the calls do once the bytes are known whole and the class and the entry are within the sizes. Inner functions: other crates call them, and they may have preconditions.
 use crate::cycle::alone;
 use crate::cycle::move_after;
 use crate::cycle::move_before;
@@ -7,11 +7,12 @@ ghost use mathlib.Core.Path.{_≡_};
 ghost use mathlib.Core.Bool.{true};
 ghost use Prim.Native.Nat.{_+_, _<_};
 ghost use lib.Dec.{ltb};
-ghost use lib.ListN.{length};
+ghost use lib.ListN.{length, drop};
 ghost use Rattle.state.specs.Lengths.{listsAllowed, listsLength};
 ghost use Rattle.multi_cycle_list.specs.Lists.{first, last, row, counts, empty, without-entry, movedFront, movedBack};
 ghost use Rattle.multi_cycle_list.specs.Nodes.{wholeB, classes, entries, read};
 ghost use Rattle.multi_cycle_list.specs.Laid.{laid};
+ghost use Rattle.multi_cycle_list.specs.declared.inner.MaybeEntry.the-variants as maybe;
 
 pub enum MaybeEntry {
     Some(u8),
@@ -34,6 +35,20 @@ pub fn inner_front(s: &[u8], class: usize) -> MaybeEntry
 {
     let c = s[0];
     let n = s[2 + 2 * class];
+    if n < c {
+        return MaybeEntry::None;
+    }
+    MaybeEntry::Some(n - c)
+}
+
+// The entry after the front, if any.
+pub fn inner_second(s: &[u8], class: usize, front: usize) -> MaybeEntry
+    requires { ⌜ (wholeB (now s) ≡ true) × ((class < classes (now s)) × (first (row (read (now s)) class) ≡ maybe.Some front)) ⌝ }
+    ensures { λ r. ⌜ r ≡ first (drop 1 (row (read (now (s .entry))) class)) ⌝ }
+{
+    let c = s[0];
+    let i = c as usize + front;
+    let n = s[2 + 2 * i];
     if n < c {
         return MaybeEntry::None;
     }

@@ -15,13 +15,13 @@ use Rattle.state.proofs.Tests.{and-r, and4, not-both, false-of, same-test, by-c
 use Rattle.multi_cycle_list.specs.Lists as lists
 use Rattle.multi_cycle_list.specs.Nodes as nodes
 use Rattle.multi_cycle_list.specs.Inner.{Marked}
-use Rattle.multi_cycle_list.proofs.Laid.{read-fair}
+use Rattle.multi_cycle_list.proofs.Laid.{read-valid}
 use Rattle.entry_tree.specs.Places as tree
 use Rattle.regular.specs.Registry as registry
 use Rattle.entry_tree.specs.Testing.{markOf, pairsB, seenAfter, pointedB}
 use Rattle.regular.specs.Registry.{lastB}
 use Rattle.regular.specs.Bytes.{activePart, inactivePart, queuePart, read, sizesB, wholeB}
-use Rattle.regular.specs.Inner.{settledB}
+use Rattle.regular.specs.Inner.{metB}
 use Rattle.regular.proofs.Testing.{Marks, Tested, sound, complete}
 
 -- ---- sizes
@@ -82,7 +82,7 @@ module _ (s seen : List ℕ) (g : Ground s seen) where
     of-clean-up = λ e l q. of-class e 0 l q .1;
     of-activation = λ e l q. of-class e 1 l q .1;
     most = λ e l. elim (ℕ-discrete (markOf seen e) 0) [ yes z ↦ omega arith | no z ↦ omega (arith, of-class e (markOf seen e - 1) l (omega arith) .0) ];
-    once = λ e. omega (arith, two-counts (queuePart s) e (Z .classes), read-fair (queuePart s) (g .queue) .once e);
+    once = λ e. omega (arith, two-counts (queuePart s) e (Z .classes), read-valid (queuePart s) (g .queue) .once e);
   }
 
   pointed : (e : ℕ) → (read s) .walk ≡ some e → e < 128
@@ -115,8 +115,8 @@ module _ (s seen : List ℕ) (g : Ground s seen) where
   pub no-inactive : pairsB 8191 1 2 2 4 (seenAfter 3 seen ((read s) .active)) 0 ((read s) .inactive) ≡ false → wholeB s ≡ false
   no-inactive f = false-of (wholeB s) (λ h. not-both (sym (tested h .inactive) ∙ f))
 
-  pub no-settled : allB 128 (settledB (seenAfter 4 (seenAfter 3 seen ((read s) .active)) ((read s) .inactive))) ≡ false → wholeB s ≡ false
-  no-settled f = false-of (wholeB s) (λ h. not-both (sym (tested h .settled) ∙ f))
+  pub no-all-met : allB 128 (metB (seenAfter 4 (seenAfter 3 seen ((read s) .active)) ((read s) .inactive))) ≡ false → wholeB s ≡ false
+  no-all-met f = false-of (wholeB s) (λ h. not-both (sym (tested h .all-met) ∙ f))
 
   pub no-last : lastB (read s) ≡ false → wholeB s ≡ false
   no-last f = false-of (wholeB s) (λ h. not-both (sym (tested h .last) ∙ f))
@@ -130,13 +130,13 @@ module _ (s seen : List ℕ) (g : Ground s seen) where
   of-points marks (some w) f = eq-eqb (markOf marks w) 3 (f w refl)
 
   pub whole-last : pairsB 8191 1 0 1 3 seen 0 ((read s) .active) ≡ true → pairsB 8191 1 2 2 4 (seenAfter 3 seen ((read s) .active)) 0 ((read s) .inactive) ≡ true
-      → allB 128 (settledB (seenAfter 4 (seenAfter 3 seen ((read s) .active)) ((read s) .inactive))) ≡ true → lastB (read s) ≡ true
+      → allB 128 (metB (seenAfter 4 (seenAfter 3 seen ((read s) .active)) ((read s) .inactive))) ≡ true → lastB (read s) ≡ true
       → wholeB s ≡ pointedB (seenAfter 4 (seenAfter 3 seen ((read s) .active)) ((read s) .inactive)) ((read s) .walk)
   whole-last a i t l =
       let two = seenAfter 4 (seenAfter 3 seen ((read s) .active)) ((read s) .inactive) in
       same-test (wholeB s) (pointedB two ((read s) .walk))
       (λ h. of-points two ((read s) .walk) (tested h .walk))
-      (λ h. whole-by (record { active = a; inactive = i; settled = t; last = l; walk = points two ((read s) .walk) h }))
+      (λ h. whole-by (record { active = a; inactive = i; all-met = t; last = l; walk = points two ((read s) .walk) h }))
 
 -- ---- the first tests
 

@@ -19,7 +19,7 @@ use Rattle.entry_tree.specs.Walks.{walkB}
 use Rattle.entry_tree.specs.Testing.{markOf, pairsB, seenAfter, gapsB}
 use Rattle.entry_tree.proofs.Passing.{Pass, count-own, range-inside, pass-of, after-in, after-out, after-length, of-pass, order-same}
 use Rattle.regular.specs.Registry.{Registry, queued, onceB, queuesB, marksB, wholeB}
-use Rattle.regular.specs.Inner.{settledB}
+use Rattle.regular.specs.Inner.{metB}
 
 -- what the queue's test leaves: each entry's mark names its queue
 pub record Marks (cleanUp activation seen : List ℕ) : Type 0 where
@@ -109,7 +109,7 @@ module _ (m : Registry) where
 pub record Tested (m : Registry) (seen : List ℕ) : Type 0 where
   pub active : pairsB 8191 1 0 1 3 seen 0 (m .active) ≡ true
   pub inactive : pairsB 8191 1 2 2 4 (seenAfter 3 seen (m .active)) 0 (m .inactive) ≡ true
-  pub settled : allB 128 (settledB (seenAfter 4 (seenAfter 3 seen (m .active)) (m .inactive))) ≡ true
+  pub all-met : allB 128 (metB (seenAfter 4 (seenAfter 3 seen (m .active)) (m .inactive))) ≡ true
   pub last : (not (m .lastGap) || leb (past 0 (m .active)) 8191) ≡ true
   pub walk : (e : ℕ) → m .walk ≡ some e → markOf (seenAfter 4 (seenAfter 3 seen (m .active)) (m .inactive)) e ≡ 3
 
@@ -160,8 +160,8 @@ module _ (m : Registry) (seen : List ℕ) (n : length seen ≡ 256) (k : Marks (
     in2 : (e : ℕ) → 0 < count (isEntry e) (m .inactive) → markOf two e ≡ 4
     in2 e i = after-in 8191 4 one (m .inactive) e one-long (I .range) i
 
-    settled-at : (e : ℕ) → e < 128 → (markOf two e ≡ 0) ⊎ (3 ≤ markOf two e)
-    settled-at e l = ⊎-elim (λ h. inl (eqb-true (markOf two e) 0 h)) (λ h. inr (leb-true 3 (markOf two e) h)) (or-split (eqb (markOf two e) 0) (leb 3 (markOf two e)) (all-at 128 (settledB two) (t .settled) e l))
+    all-met-at : (e : ℕ) → e < 128 → (markOf two e ≡ 0) ⊎ (3 ≤ markOf two e)
+    all-met-at e l = ⊎-elim (λ h. inl (eqb-true (markOf two e) 0 h)) (λ h. inr (leb-true 3 (markOf two e) h)) (or-split (eqb (markOf two e) 0) (leb 3 (markOf two e)) (all-at 128 (metB two) (t .all-met) e l))
 
     apart : (e : ℕ) → 0 < count (isEntry e) (m .inactive) → count (isEntry e) (m .active) ≡ 0
     apart e i = elim (ℕ-discrete (count (isEntry e) (m .active)) 0) [ yes z ↦ z | no z ↦ absurd (omega (arith, in1 e (omega arith), I .marks e i .1)) ]
@@ -183,7 +183,7 @@ module _ (m : Registry) (seen : List ℕ) (n : length seen ≡ 256) (k : Marks (
         | no y ↦
             let v : markOf seen e ≡ 2 = k .in-activation e l (omega arith) in
             elim (ℕ-discrete (count (isEntry e) (m .active)) 0) [
-              | yes x ↦ absurd (⊎-elim (λ s. omega (arith, out2 e z, out e x)) (λ s. omega (arith, out2 e z, out e x)) (settled-at e l))
+              | yes x ↦ absurd (⊎-elim (λ s. omega (arith, out2 e z, out e x)) (λ s. omega (arith, out2 e z, out e x)) (all-met-at e l))
               | no x ↦ absurd (omega (arith, A .marks e (omega arith) .1))
             ]
       ]
@@ -197,7 +197,7 @@ module _ (m : Registry) (seen : List ℕ) (n : length seen ≡ 256) (k : Marks (
           elim (ℕ-discrete (count (isEntry e) (m .active)) 0) [
             | no x ↦ omega (arith, k .once e)
             | yes x ↦ elim (ℕ-discrete (count (isEntry e) (m .inactive)) 0) [
-              | yes z ↦ absurd (⊎-elim (λ s. omega (arith, out2 e z, out e x)) (λ s. omega (arith, out2 e z, out e x)) (settled-at e l))
+              | yes z ↦ absurd (⊎-elim (λ s. omega (arith, out2 e z, out e x)) (λ s. omega (arith, out2 e z, out e x)) (all-met-at e l))
               | no z ↦ absurd (omega (arith, I .marks e (omega arith) .0, out e x))
             ]
           ]
@@ -262,7 +262,7 @@ module _ (m : Registry) (seen : List ℕ) (n : length seen ≡ 256) (k : Marks (
     unfolding lists.count
     unqueued e q = ne-eqb (markOf one e) 1 (λ z. omega arith)
 
-    settles : (e : ℕ) → e < 128 → settledB two e ≡ true
+    settles : (e : ℕ) → e < 128 → metB two e ≡ true
     settles e l = elim (ℕ-discrete (count (isEntry e) (m .inactive)) 0) [
       | no z ↦ met (markOf two e) (omega (arith, after-in 8191 4 one (m .inactive) e one-long (C .range-i) (omega arith)))
       | yes z ↦ elim (ℕ-discrete (count (isEntry e) (m .active)) 0) [
@@ -299,7 +299,7 @@ module _ (m : Registry) (seen : List ℕ) (n : length seen ≡ 256) (k : Marks (
         marks = λ e i. (omega (arith, inactive-mark e i), omega (arith, inactive-mark e i));
         gaps = gaps-are [] one 0 (m .inactive) (λ e i. unqueued e (inactive-mark e i)) ∙ no-marks 0 (m .inactive);
       });
-      settled = all-true 128 (settledB two) settles;
+      all-met = all-true 128 (metB two) settles;
       last = C .last;
       walk = λ e q.
           let i : 0 < count (isEntry e) (m .active) = ltb-true 0 (count (isEntry e) (m .active)) (ap (walkB (m .active)) (sym q) ∙ C .walk) in

@@ -55,11 +55,11 @@ module _ (s : List ℕ) where
 
 -- ---- the marks that are left
 
-pub settled-at : (m : ℕ) → m ≢ 1 → m ≢ 2 → (eqb m 0 || leb 3 m) ≡ true
-settled-at m a b = elim (ℕ-discrete m 0) [ yes q ↦ rw (eq-eqb m 0 q) | no q ↦ rw (ne-eqb m 0 q, le-leb 3 m (omega arith)) ]
+pub all-met-at : (m : ℕ) → m ≢ 1 → m ≢ 2 → (eqb m 0 || leb 3 m) ≡ true
+all-met-at m a b = elim (ℕ-discrete m 0) [ yes q ↦ rw (eq-eqb m 0 q) | no q ↦ rw (ne-eqb m 0 q, le-leb 3 m (omega arith)) ]
 
-pub unsettled-at : (m : ℕ) → 0 < m → m < 3 → (eqb m 0 || leb 3 m) ≡ false
-unsettled-at m a b = rw (ne-eqb m 0 (omega arith), lt-leb 3 m b)
+pub unmet-at : (m : ℕ) → 0 < m → m < 3 → (eqb m 0 || leb 3 m) ≡ false
+unmet-at m a b = rw (ne-eqb m 0 (omega arith), lt-leb 3 m b)
 
 -- ---- the ends
 

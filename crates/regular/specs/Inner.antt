@@ -7,5 +7,5 @@ use lib.Dec.{eqb, leb}
 use Rattle.entry_tree.specs.Testing.{markOf}
 
 -- the entry e was met in a tree, or stands in no queue
-abbrev pub settledB : List ℕ → ℕ → Bool
-settledB seen e = eqb (markOf seen e) 0 || leb 3 (markOf seen e)
+abbrev pub metB : List ℕ → ℕ → Bool
+metB seen e = eqb (markOf seen e) 0 || leb 3 (markOf seen e)

@@ -116,7 +116,7 @@ unfoldable pub steps : ℕ → Registry → Result Answer Registry
 steps zero m = done Nothing m
 steps (suc n) m = onStep ((innerStep m) .says) ((innerStep m) .then) (steps n ((innerStep m) .then))
 
--- a step that says 'call again' takes an entry off the activation queue
+-- a step that says 'call again' takes an entry off the activation queue: one step more than it has entries is enough
 unfoldable pub pollPop : Registry → Result Answer Registry
 pollPop m = steps (suc (length (m .activation))) m
 

@@ -16,7 +16,7 @@ ghost use Rattle.entry_tree.specs.Places.{size, read};
 ghost use Rattle.regular.specs.Registry.{lastB};
 ghost use Rattle.regular.specs.Bytes as Bytes;
 ghost use Rattle.regular.specs.Bytes.{sizesB, activePart, wholeB};
-ghost use Rattle.regular.specs.Inner.{settledB};
+ghost use Rattle.regular.specs.Inner.{metB};
 
 // An answer of a call. `Accepted` has the wake flag; `Started`, whether an entry is pointed at; `Pushed`, the entry named and whether
 // more follow.
@@ -56,9 +56,9 @@ fn sizes(s: &[u8]) -> bool
     s[771] == 128
 }
 
-fn settled(seen: &[u8]) -> bool
+fn all_met(seen: &[u8]) -> bool
     requires { ⌜ length (now seen) ≡ 256 ⌝ }
-    ensures { λ r. ⌜ r ≡ allB 128 (settledB (now (seen .entry))) ⌝ }
+    ensures { λ r. ⌜ r ≡ allB 128 (metB (now (seen .entry))) ⌝ }
 {
     let mut e = 0;
     while e < 128 {
@@ -116,7 +116,7 @@ pub fn whole(s: &[u8]) -> bool
     if pairs_ok(&s[385..770], &mut seen, 8191, 1, 2, 2, 4) {} else {
         return false;
     }
-    if settled(&seen) {} else {
+    if all_met(&seen) {} else {
         return false;
     }
     if last_ok(s) {} else {

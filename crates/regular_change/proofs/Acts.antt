@@ -22,7 +22,7 @@ use Rattle.multi_cycle_list.specs.Nodes as nodes
 use Rattle.multi_cycle_list.specs.Laid as listsLaid
 use Rattle.multi_cycle_list.proofs.Lists.{without-none, in-count, without-same, count-same, count-gone, count-kept}
 use Rattle.multi_cycle_list.proofs.Laid as queues
-use Rattle.multi_cycle_list.proofs.Changes.{remove-fair}
+use Rattle.multi_cycle_list.proofs.Changes.{remove-valid}
 use Rattle.entry_tree.specs.Pairs.{Pair, pair, bit, count, isEntry, hasEntry, hasSubject, inserted, without, position, placeOf, Place, past}
 use Rattle.entry_tree.specs.Places as tree
 use Rattle.entry_tree.specs.Inner.{removedAt, walkAt, withWalkPast}
@@ -39,12 +39,12 @@ use Rattle.regular.specs.Bytes.{activePart, inactivePart, queuePart, read, whol
 use Rattle.regular.specs.Steps.{waits, joins, leavesInactive, leaves, Gaps, gaps, headGaps, isHead, newMark, goesOn, withCleanUp, Step, innerStep, activates, becomesActive}
 use Rattle.regular.proofs.Parts.{Joined, put-active, put-inactive, put-queue, set-tail, tail-at, active-is, queue-is}
 use Rattle.regular.proofs.Grounds.{sizes-of}
-use Rattle.regular_fair.proofs.Facts.{Facts, at-most}
+use Rattle.regular_valid.proofs.Facts.{Facts, at-most}
 use Rattle.entry_tree.proofs.Count.{few-entries}
-use Rattle.regular_fair.proofs.Places.{mark-range}
-use Rattle.regular_fair.proofs.Poll.{step-front, step-last, step-next}
-use Rattle.regular_fair.proofs.Reading.{parts, read-facts}
-use Rattle.regular_fair.proofs.Round.{tailOf, tailLaid, split-long, split-whole, laid-joined, laid-from, queue-read, active-self, inactive-self, queue-self, low-self, high-self, flag-self, walk-self}
+use Rattle.regular_valid.proofs.Places.{mark-range}
+use Rattle.regular_valid.proofs.Poll.{step-front, step-last, step-next}
+use Rattle.regular_valid.proofs.Reading.{parts, read-facts}
+use Rattle.regular_valid.proofs.Round.{tailOf, tailLaid, split-long, split-whole, laid-joined, laid-from, queue-read, active-self, inactive-self, queue-self, low-self, high-self, flag-self, walk-self}
 use Rattle.regular_change.specs.Inner.{fromAt, gapBefore, gapOf, more, withSlots, withFlag}
 use Rattle.regular.specs.declared.Popped.the-variants as pops
 use Rattle.regular_change.proofs.Looks.{place-from-at}
@@ -527,17 +527,17 @@ module _ (b : List ℕ) (y : Bytes b) (h : wholeB b ≡ true) where
         (ap (flagOver true) (tail-at s1 A I W T J1 2)) (walk-self b y h))
 
     -- the queue after the mark was withdrawn
-    fair-unmarked : lists.Fair (without-entry e (nodes.read Q))
-    fair-unmarked = remove-fair (nodes.read Q) (queues.read-fair Q whole-queue) e (omega (arith, entries-all, active-entry))
+    valid-unmarked : lists.Valid (without-entry e (nodes.read Q))
+    valid-unmarked = remove-valid (nodes.read Q) (queues.read-valid Q whole-queue) e (omega (arith, entries-all, active-entry))
 
     queue-then : queuePart s1 ≡ W
     queue-then = queue-is s1 A I W T J1
 
     whole-then : nodes.wholeB (queuePart s1) ≡ true
-    whole-then = ap nodes.wholeB queue-then ∙ queues.laid-whole (without-entry e (nodes.read Q)) fair-unmarked
+    whole-then = ap nodes.wholeB queue-then ∙ queues.laid-whole (without-entry e (nodes.read Q)) valid-unmarked
 
     read-then : nodes.read (queuePart s1) ≡ queueOf unmarked
-    read-then = ap nodes.read queue-then ∙ queues.read-laid (without-entry e (nodes.read Q)) fair-unmarked ∙ withdrawn-queue
+    read-then = ap nodes.read queue-then ∙ queues.read-laid (without-entry e (nodes.read Q)) valid-unmarked ∙ withdrawn-queue
 
     pub queue-ready : Queue (queuePart s1)
     queue-ready =

@@ -26,9 +26,9 @@ use Rattle.regular.proofs.Grounds.{sizes-of, two-counts}
 use Rattle.regular.proofs.Parts as parts
 use Rattle.regular.proofs.Testing.{Conditions, conditions}
 use Rattle.entry_tree.proofs.Count.{same, diff, compareEq, any-true, any-false, true-any}
-use Rattle.regular_fair.proofs.Queue.{count-first}
-use Rattle.regular_fair.proofs.Facts.{Facts, at-most}
-use Rattle.regular_fair.proofs.Reading as reading
+use Rattle.regular_valid.proofs.Queue.{count-first}
+use Rattle.regular_valid.proofs.Facts.{Facts, at-most}
+use Rattle.regular_valid.proofs.Reading as reading
 use Rattle.regular_change.specs.Inner.{fromAt, gapBefore, gapOf}
 use Rattle.regular_change.specs.declared.look.Gap.{Gap}
 use Rattle.regular_change.specs.declared.look.Gap.the-variants.{Same, Withdrawn, Marked, Last}

@@ -18,16 +18,17 @@ use Rattle.regular.specs.Steps.{Call, step}
 use Rattle.regular.specs.Calls.{on, bytes, openedBytes, opening}
 use Rattle.regular.specs.declared.Answer.{Answer}
 use Rattle.regular.specs.declared.Answer.the-variants.{Refused, Done}
-use Rattle.regular_fair.specs.Moves.{Registered, lists, moved, into}
-use Rattle.regular_fair.proofs.Inv.{Inv}
-use Rattle.regular_fair.proofs.Demand as demand
-use Rattle.regular_fair.proofs.Mean.{means, fresh-fair}
+use Rattle.regular_valid.specs.Moves.{Registered, lists}
+use Rattle.regular_valid.specs.Inner.{moved, into}
+use Rattle.regular_valid.proofs.Inv.{Inv}
+use Rattle.regular_valid.proofs.Demand as demand
+use Rattle.regular_valid.proofs.Mean.{means, fresh-valid}
 use Rattle.filter_image.specs.Image as image
 use Rattle.filter_image.proofs.Laws.{length-image, holds-none}
 use Rattle.filter_image.proofs.Ends.{open-done}
-use Rattle.gomxeli.specs.Answers.{regularAnswer}
-use Rattle.regular_runs.specs.Runs.{Now, begin, accepted}
-use Rattle.regular_runs.proofs.Fields.{accepted-of}
+use Rattle.gomxeli.specs.Answers.{regularAnswer, accepted}
+use Rattle.gomxeli.proofs.Fields.{accepted-of}
+use Rattle.regular_runs.specs.Runs.{Now, begin}
 
 pub record Good (w : Now) : Type 0 where
   pub whole : wholeB (w .state) ≡ true
@@ -56,15 +57,15 @@ module _ (n : ℕ) (b i : List ℕ) (h : n ≤ 65535) (l : length b ≡ regularL
 
   -- the opened bytes mean a fresh registry
   pub begin-means : read (begin n b i .state) ≡ fresh n
-  begin-means = ap read opened ∙ means .meaning .read-laid (fresh n) Zeros (zero-bytes (length b)) (fresh-fair n h) long-zeros
+  begin-means = ap read opened ∙ means .meaning .read-laid (fresh n) Zeros (zero-bytes (length b)) (fresh-valid n h) long-zeros
 
   pub good-begin : length i ≡ imageLength → Good (begin n b i)
   good-begin k =
       let e : image.imageOf image.none ≡ begin n b i .image = open-done i (image.imageOf image.none) k refl .1 in
       let j = demand.same-filter (fresh n) (λ x. false) (lists [] []) (demand.begin n h) (image.holds (begin n b i .image)) (λ x. sym (holds-none (begin n b i .image) (sym e) x)) in
       record {
-        whole = rw opened (means .meaning .laid-whole (fresh n) Zeros (zero-bytes (length b)) (fresh-fair n h) long-zeros);
-        bytes = rw opened (means .meaning .laid-bytes (fresh n) Zeros (zero-bytes (length b)) (fresh-fair n h) long-zeros);
+        whole = rw opened (means .meaning .laid-whole (fresh n) Zeros (zero-bytes (length b)) (fresh-valid n h) long-zeros);
+        bytes = rw opened (means .meaning .laid-bytes (fresh n) Zeros (zero-bytes (length b)) (fresh-valid n h) long-zeros);
         long = ap (λ (t : List ℕ). length t) (sym e) ∙ length-image image.none;
         inv = subst (λ (m : Registry). Inv m (image.holds (begin n b i .image)) (lists [] [])) (sym begin-means) j;
       }
@@ -104,7 +105,7 @@ pub refused-opening : (b : List ℕ) (n : ℕ) → accepted (regularAnswer (answ
 unfolding opening
 refused-opening b n =
     by-cond K (eqb (length b) regularLength)
-    (λ l. by-cond K (ltb 65535 n) (λ t h. refl) (λ t h. not-both (sym (accepted-of 0 0 0 (omega arith) (omega arith)) ∙ h)))
+    (λ l. by-cond K (ltb 65535 n) (λ t h. refl) (λ t h. not-both (sym (accepted-of 0 0 0) ∙ h)))
     (λ l h. refl)
   where
     K : Result Answer Registry → Type 0

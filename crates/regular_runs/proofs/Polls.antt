@@ -18,17 +18,19 @@ use Rattle.regular.specs.Bytes.{read}
 use Rattle.regular.specs.Steps.{PollPop, pollPop}
 use Rattle.regular.specs.declared.Answer.{Answer}
 use Rattle.regular.specs.declared.Answer.the-variants.{AddSubject, RemoveSubjectRange, Nothing}
-use Rattle.regular_fair.specs.Moves as moves
-use Rattle.regular_fair.specs.Moves.{Registered, isUpdate, isAddOrNothing, into, activated}
-use Rattle.regular_fair.proofs.Poll as poll
-use Rattle.regular_fair.proofs.Poll.{due}
-use Rattle.regular_fair.proofs.Demand as demand
+use Rattle.regular_valid.specs.Inner as moves
+use Rattle.regular_valid.specs.Moves.{Registered, activated}
+use Rattle.regular_valid.specs.Inner.{isUpdate, isAddOrNothing, into}
+use Rattle.regular_valid.proofs.Poll as poll
+use Rattle.regular_valid.proofs.Poll.{due}
+use Rattle.regular_valid.proofs.Demand as demand
 use Rattle.filter_image.specs.Image as image
 use Rattle.filter_image.proofs.Laws.{length-image, holds-image, holds-past}
-use Rattle.gomxeli.specs.Answers.{regularAnswer, packed}
+use Rattle.gomxeli.specs.Answers.{regularAnswer, packed, accepted}
 use Rattle.gomxeli.specs.Calls.{RegPollPop}
-use Rattle.regular_runs.specs.Runs.{Now, after, answer, polls, accepted, isNothing, isAdd, putUpdate, covers}
-use Rattle.regular_runs.proofs.Fields.{accepted-of, nothing-of, add-of, removal-of, first-of, second-of}
+use Rattle.gomxeli.proofs.Fields.{accepted-of, first-of, second-of}
+use Rattle.regular_runs.specs.Runs.{Now, after, answer, polls, isNothing, isAdd, putUpdate, covers}
+use Rattle.regular_runs.proofs.Fields.{nothing-of, add-of, removal-of}
 use Rattle.regular_runs.proofs.Kept.{Good, on-meaning, meaning-kept, regular-kept}
 
 -- ---- the answers of a poll, and their numbers
@@ -72,14 +74,14 @@ module _ (x : ℕ) (k : x ≤ 8191) where
 
   put-add : (i : List ℕ) → length i ≡ imageLength → putUpdate Add i ≡ image.imageOf (image.with x (image.holds i))
   unfolding image.addSubject
-  put-add i l = rw (add-of 1 x 0 (omega arith) (omega arith), first-of 0 1 x 0 (omega arith) (omega arith) (omega arith), le-ltb 8191 x k, eq-eqb (length i) imageLength l) refl
+  put-add i l = rw (add-of 1 x 0 (omega arith), first-of 0 1 x 0 (omega arith) (omega arith) (omega arith), le-ltb 8191 x k, eq-eqb (length i) imageLength l) refl
 
   says-add : Says (AddSubject x) Add
   says-add = record {
-    taken = accepted-of 1 x 0 (omega arith) (omega arith);
-    ends = nothing-of 1 x 0 (omega arith) (omega arith);
-    moving = rw (add-of 1 x 0 (omega arith) (omega arith)) refl;
-    covering = λ y. rw (removal-of 1 x 0 (omega arith) (omega arith)) refl;
+    taken = accepted-of 1 x 0;
+    ends = nothing-of 1 x 0 (omega arith);
+    moving = rw (add-of 1 x 0 (omega arith)) refl;
+    covering = λ y. rw (removal-of 1 x 0 (omega arith)) refl;
     put = λ i l top. put-image (AddSubject x) i (putUpdate Add i) (put-add i l) top;
   }
 
@@ -90,24 +92,24 @@ module _ (a b : ℕ) (k : a ≤ b) (l : b ≤ 8191) where
   put-removal : (i : List ℕ) → length i ≡ imageLength → putUpdate Removal i ≡ image.imageOf (image.withoutRange a b (image.holds i))
   unfolding image.removeSubjectRange
   put-removal i h =
-      rw (add-of 2 a b (omega arith) (omega arith), removal-of 2 a b (omega arith) (omega arith), first-of 0 2 a b (omega arith) (omega arith) (omega arith), second-of 0 2 a b (omega arith) (omega arith) (omega arith), le-ltb 8191 a (omega arith), le-ltb 8191 b l, le-ltb b a k, eq-eqb (length i) imageLength h) refl
+      rw (add-of 2 a b (omega arith), removal-of 2 a b (omega arith), first-of 0 2 a b (omega arith) (omega arith) (omega arith), second-of 0 2 a b (omega arith) (omega arith) (omega arith), le-ltb 8191 a (omega arith), le-ltb 8191 b l, le-ltb b a k, eq-eqb (length i) imageLength h) refl
 
   says-removal : Says (RemoveSubjectRange a b) Removal
   says-removal = record {
-    taken = accepted-of 2 a b (omega arith) (omega arith);
-    ends = nothing-of 2 a b (omega arith) (omega arith);
-    moving = rw (add-of 2 a b (omega arith) (omega arith), nothing-of 2 a b (omega arith) (omega arith)) refl;
-    covering = λ y. rw (removal-of 2 a b (omega arith) (omega arith), first-of 0 2 a b (omega arith) (omega arith) (omega arith), second-of 0 2 a b (omega arith) (omega arith) (omega arith)) refl;
+    taken = accepted-of 2 a b;
+    ends = nothing-of 2 a b (omega arith);
+    moving = rw (add-of 2 a b (omega arith), nothing-of 2 a b (omega arith)) refl;
+    covering = λ y. rw (removal-of 2 a b (omega arith), first-of 0 2 a b (omega arith) (omega arith) (omega arith), second-of 0 2 a b (omega arith) (omega arith) (omega arith)) refl;
     put = λ i h top. put-image (RemoveSubjectRange a b) i (putUpdate Removal i) (put-removal i h) top;
   }
 
 says-nothing : Says Nothing (packed 0 0 0 0)
 says-nothing = record {
-  taken = accepted-of 0 0 0 (omega arith) (omega arith);
-  ends = nothing-of 0 0 0 (omega arith) (omega arith);
-  moving = rw (add-of 0 0 0 (omega arith) (omega arith), nothing-of 0 0 0 (omega arith) (omega arith)) refl;
-  covering = λ y. rw (removal-of 0 0 0 (omega arith) (omega arith)) refl;
-  put = λ i h top. rw (add-of 0 0 0 (omega arith) (omega arith), removal-of 0 0 0 (omega arith) (omega arith)) record { long = h; holds = λ x. refl };
+  taken = accepted-of 0 0 0;
+  ends = nothing-of 0 0 0 (omega arith);
+  moving = rw (add-of 0 0 0 (omega arith), nothing-of 0 0 0 (omega arith)) refl;
+  covering = λ y. rw (removal-of 0 0 0 (omega arith)) refl;
+  put = λ i h top. rw (add-of 0 0 0 (omega arith), removal-of 0 0 0 (omega arith)) record { long = h; holds = λ x. refl };
 }
 
 says : {a : Answer} → Update a → Says a (regularAnswer a)

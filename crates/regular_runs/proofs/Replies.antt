@@ -12,10 +12,9 @@ use Rattle.regular.specs.Registry.{Registry}
 use Rattle.regular.specs.Steps.{Gaps, gaps, register, unregister, unregisterActive, hubPushStart, pushNext, hubPushNext}
 use Rattle.regular.specs.declared.Answer.{Answer}
 use Rattle.regular.specs.declared.Answer.the-variants.{Refused, Accepted}
-use Rattle.regular_fair.specs.Moves.{isAccepted, into}
-use Rattle.gomxeli.specs.Answers.{regularAnswer, flag}
-use Rattle.regular_runs.specs.Runs.{accepted}
-use Rattle.regular_runs.proofs.Fields.{accepted-of, refused-of}
+use Rattle.regular_valid.specs.Inner.{isAccepted, into}
+use Rattle.gomxeli.specs.Answers.{regularAnswer, flag, accepted}
+use Rattle.gomxeli.proofs.Fields.{accepted-of, refused-of}
 
 pub data Reply : Answer → Type 0 where
   refused : (n : ℕ) → 0 < n → n < 256 → Reply (Refused n)
@@ -45,14 +44,10 @@ unregister-reply e m =
     by-cond Replies (hasEntry e (m .active)) (λ h. active-reply e (placeOf e (m .active)) (gaps e (placeOf e (m .active)) (m .cleanUp) (m .lastGap)) m)
     (λ h. refused 8 (omega arith) (omega arith))))
 
-flag-small : (t : Bool) → flag t < 256
-flag-small true = omega arith
-flag-small false = omega arith
-
 -- the number tells whether it was accepted
 pub same-accepted : {a : Answer} → Reply a → isAccepted a ≡ accepted (regularAnswer a)
 same-accepted (refused n p h) = rw (refused-of n p h) refl
-same-accepted (taken wake) = rw (accepted-of (flag wake) 0 0 (flag-small wake) (omega arith)) refl
+same-accepted (taken wake) = rw (accepted-of (flag wake) 0 0) refl
 
 -- and the filter stays
 pub no-update : {a : Answer} → Reply a → (F : ℕ → Bool) (x : ℕ) → into a F x ≡ F x

@@ -14,15 +14,16 @@ use Rattle.regular.specs.Bytes.{read}
 use Rattle.regular.specs.Steps.{Call, step, Register, Unregister, HubPushStart, HubPushNext}
 use Rattle.regular.specs.Calls.{on, bytes, openedBytes, opening}
 use Rattle.regular.specs.declared.Answer.{Answer}
-use Rattle.regular_fair.specs.Moves as moves
-use Rattle.regular_fair.specs.Moves.{Registered, joined, taken, isAccepted}
-use Rattle.regular_fair.proofs.Poll.{due}
-use Rattle.regular_fair.proofs.Demand as demand
+use Rattle.regular_valid.specs.Inner as moves
+use Rattle.regular_valid.specs.Moves.{Registered, joined, taken}
+use Rattle.regular_valid.specs.Inner.{isAccepted}
+use Rattle.regular_valid.proofs.Poll.{due}
+use Rattle.regular_valid.proofs.Demand as demand
 use Rattle.filter_image.specs.Image as image
-use Rattle.gomxeli.specs.Answers.{regularAnswer}
+use Rattle.gomxeli.specs.Answers.{regularAnswer, accepted}
 use Rattle.gomxeli.specs.Calls as calls
 use Rattle.gomxeli.specs.Calls.{does, RegPollPop}
-use Rattle.regular_runs.specs.Runs.{Part, Now, answer, after, moved, part, covers, isOpened, accepted, isNothing, isAdd, isRemoval, run, begin, NotOpened, Clear, updates, saysNothing, entries, Holds, Demand3}
+use Rattle.regular_runs.specs.Runs.{Part, Now, answer, after, moved, part, covers, isOpened, isNothing, isAdd, isRemoval, run, begin, NotOpened, Clear, updates, saysNothing, entries, Holds, Demand3}
 use Rattle.regular_runs.proofs.Others as others
 use Rattle.regular_runs.proofs.Replies.{Reply, register-reply, unregister-reply, same-accepted, no-update, start-quiet, push-quiet}
 use Rattle.regular_runs.proofs.Kept.{Good, state-long, good-begin, on-meaning, regular-kept, left-kept, refused-opening}

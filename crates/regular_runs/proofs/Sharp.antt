@@ -13,7 +13,7 @@ use Rattle.regular.specs.Bytes.{read}
 use Rattle.regular.specs.Steps.{Call, step, Register, Unregister, HubPushStart, PollPop, HubPushNext, register, unregister, steps, pollPop}
 use Rattle.regular.specs.Calls.{on, bytes}
 use Rattle.regular.specs.declared.Answer.{Answer}
-use Rattle.regular_fair.specs.Moves.{Registered, lists}
+use Rattle.regular_valid.specs.Moves.{Registered, lists}
 use Rattle.gomxeli.specs.Answers.{packed, regularAnswer}
 use Rattle.gomxeli.specs.Calls as exports
 use Rattle.gomxeli.specs.Calls.{does, changes, Outcome, RegUnregister, RegHubPushStart, RegRegister, RegPollPop, RegHubPushNext}

@@ -1,5 +1,5 @@
 -- Demand 3: any list of exported calls on one regular registry's state bytes, and the filter image that its updates go into.
-use Prim.Native.Nat.{ℕ, zero, suc, _+_, _/_, _%_, _≤_}
+use Prim.Native.Nat.{ℕ, zero, suc, _+_, _≤_}
 use mathlib.Core.Path.{_≡_}
 use mathlib.Core.List.{List, [], _∷_, _++_}
 use mathlib.Core.Bool.{Bool, true, false, cond, _&&_, _||_}
@@ -7,26 +7,10 @@ use lib.Dec.{eqb, leb}
 use lib.ListN.{length}
 use Rattle.state.specs.Lengths.{regularLength, imageLength}
 use Rattle.entry_tree.specs.Pairs.{pair, hasSubject}
-use Rattle.regular_fair.specs.Moves.{Registered, lists, joined, taken, activated}
+use Rattle.regular_valid.specs.Moves.{Registered, lists, joined, taken, activated}
 use Rattle.filter_image.specs.Image as image
+use Rattle.gomxeli.specs.Answers.{what, first, second, accepted}
 use Rattle.gomxeli.specs.Calls.{Call, does, McqFront, McqBack, McqIsEmpty, McqIsFront, McqIsBack, McqRemove, McqOpen, McqMoveFront, McqMoveBack, IqFront, IqBack, IqContains, IqGet, IqRemove, IqEnqueueFront, IqEnqueueBack, IqDequeue, IqOpen, IqGetMut, IqInsert, RegOpen, RegUnregister, RegHubPushStart, RegRegister, RegPollPop, RegHubPushNext, LbOpen, LbHubPushNext, LbUnregister, LbHubPushStart, LbRegister, ReqOpen, ReqUnregister, ReqRegister, ReqPollPush, TxmOpen, TxrOpen, TxmUnregister, TxrUnregister, TxmRegister, TxrRegister, TxmUpdate, TxrUpdate, TxmPick, TxrPick, TxmSettle, TxrSettle}
-
--- ---- an answer's fields, as specs/Answers.antt of the exports packs them
-
-abbrev pub number : ℕ → ℕ
-number a = a % 256
-
-abbrev pub what : ℕ → ℕ
-what a = a / 256 % 256
-
-abbrev pub first : ℕ → ℕ
-first a = a / 65536 % 65536
-
-abbrev pub second : ℕ → ℕ
-second a = a / 4294967296
-
-abbrev pub accepted : ℕ → Bool
-accepted a = eqb (number a) 0
 
 -- a poll's answer: 'nothing', an add of the first field, a removal of the range from the first field to the second
 abbrev pub isNothing : ℕ → Bool
@@ -115,7 +99,7 @@ put polls a i = putUpdate a i
 put opens a i = i
 put other a i = i
 
--- a poll's answer is a removal that covers the subject x
+-- a poll's answer is a removal that covers the subject y
 abbrev pub covers : Part → ℕ → ℕ → Bool
 covers (registers e x) a y = false
 covers (removes e) a y = false
@@ -148,7 +132,7 @@ run (c ∷ cs) w = run cs (after c w)
 abbrev pub begin : ℕ → List ℕ → List ℕ → Now
 begin n b i = record { state = (does (RegOpen n) b) .bytes; image = image.bytes i (image.opening i); registered = lists [] [] }
 
--- no call of the list opens the registry anew
+-- a call opened the registry anew; no call of a list does
 abbrev pub isOpened : Part → ℕ → Bool
 isOpened (registers e x) a = false
 isOpened (removes e) a = false

@@ -21,8 +21,8 @@ use Rattle.regular.specs.Calls.{on}
 use Rattle.regular.specs.declared.Answer.the-variants.{Refused, Started, Pushed, NotPushed}
 use Rattle.regular.proofs.Parts.{set-tail}
 use Rattle.entry_tree.proofs.Count.{true-any}
-use Rattle.regular_fair.proofs.Reading.{read-facts}
-use Rattle.regular_fair.proofs.Round.{tailOf, split-whole, laid-from, laid-read, active-self, inactive-self, queue-self, low-self, high-self, flag-self}
+use Rattle.regular_valid.proofs.Reading.{read-facts}
+use Rattle.regular_valid.proofs.Round.{tailOf, split-whole, laid-from, laid-read, active-self, inactive-self, queue-self, low-self, high-self, flag-self}
 use Rattle.entry_tree.specs.Inner.{withWalk}
 use Rattle.rx_msg.proofs.Calls.{turned-away, changes}
 use Rattle.entry_tree.proofs.Finding.{place-in, place-next}

@@ -10,6 +10,7 @@ use multi_cycle_list::inner::inner_front;
 use regular::Answer;
 use regular::Popped;
 use regular::whole;
+use regular_change::activation::activate_known;
 use regular_change::change::join;
 use regular_change::change::leave_active;
 use regular_change::change::leave_inactive;
@@ -167,17 +168,26 @@ fn poll_pop_filter_update(s: &mut [u8]) -> Popped
     }
 }
 
+// From the third inner step on that says 'call again', the others that do are taken at once: that costs as much as some ten of them.
 pub fn poll_pop(s: &mut [u8]) -> Answer
     ensures { λ r. ⌜ (r ≡ answer (on pollPop (now (s .entry)))) × (now (s .exit) ≡ bytes (now (s .entry)) (on pollPop (now (s .entry)))) ⌝ }
 {
     if whole(s) {} else {
         return Answer::Refused(1);
     }
+    let mut again: u8 = 0;
     let found = loop {
         match poll_pop_filter_update(s) {
             Popped::AddSubject(x) => break Answer::AddSubject(x),
             Popped::RemoveSubjectRange(a, b) => break Answer::RemoveSubjectRange(a, b),
-            Popped::CallAgain => continue,
+            Popped::CallAgain => {
+                if again < 2 {
+                    again += 1;
+                    continue;
+                }
+                activate_known(s);
+                continue;
+            }
             Popped::Nothing => break Answer::Nothing,
         }
     };

@@ -89,7 +89,7 @@ module _ (e x : ℕ) (s : List ℕ) (h : wholeB s ≡ true) where
         -- there is room for the pair, and an order that it joins
         pub joins : (size s < 128) × (inOrder 0 (read s) ≡ true)
         joins =
-            let c = conditions (read s) (known s h .fair) in
+            let c = conditions (read s) (known s h .valid) in
             (omega (arith, read-length s, room 511 (read s) (c .range) (c .once) e (omega arith) ne), rising-order 0 (read s) (c .rises))
 
 -- ---- removing: the entry's place i, of n
@@ -111,7 +111,7 @@ module _ (e : ℕ) (s : List ℕ) (h : wholeB s ≡ true) where
     unfolding unregister
     unregister-done b t l =
         changes (unregister e) s h Done (without e (read s)) t (rw (le-ltb 127 e he, sym (found-is s (isEntry e) i n qi qn) ∙ lt-ltb i n b))
-        (l ∙ ap (λ (m : Registry). laid m s) (removed-is s e i qi (omega arith) (conditions (read s) (known s h .fair) .once e)))
+        (l ∙ ap (λ (m : Registry). laid m s) (removed-is s e i qi (omega arith) (conditions (read s) (known s h .valid) .once e)))
 
 -- ---- a frame
 

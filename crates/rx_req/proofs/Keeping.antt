@@ -1,4 +1,4 @@
--- Each call keeps a fair meaning fair.
+-- Each call keeps a valid meaning valid.
 use Prim.Native.Nat.{ℕ, zero-le}
 use mathlib.Core.Bool.{Bool}
 use lib.Dec.{ltb}
@@ -11,16 +11,16 @@ use Rattle.entry_tree.proofs.Changes.{inserted-range, without-range}
 use Rattle.entry_tree.proofs.Once.{inserted-once, inserted-rising, without-once, without-rising}
 use Rattle.rx_req.specs.Registry.{Registry}
 use Rattle.rx_req.specs.Steps.{Call, Register, Unregister, PollPush, step, register, unregister, pollPush}
-use Rattle.rx_req.specs.Means.{Fair}
+use Rattle.rx_req.specs.Means.{Valid}
 use Rattle.rx_req.specs.declared.Answer.{Answer}
 use Rattle.rx_req.proofs.Testing.{conditions, of-conditions}
 
 abbrev Keeps : Registry → Result Answer Registry → Type 0
-Keeps m o = Fair (left m o)
+Keeps m o = Valid (left m o)
 
-register-fair : (e x : ℕ) (m : Registry) → Fair m → Keeps m (register e x m)
+register-valid : (e x : ℕ) (m : Registry) → Valid m → Keeps m (register e x m)
 unfolding register
-register-fair e x m f =
+register-valid e x m f =
     let c = conditions m f in
     by-cond (Keeps m) (ltb 127 e) (λ t. f) (λ te.
     by-cond (Keeps m) (ltb 511 x) (λ t. f) (λ tx.
@@ -32,20 +32,20 @@ register-fair e x m f =
       rises = inserted-rising (pair e x) 0 m zero-le (any-false (onSubject x) m hx) (c .rises);
     })))))
 
-unregister-fair : (e : ℕ) (m : Registry) → Fair m → Keeps m (unregister e m)
+unregister-valid : (e : ℕ) (m : Registry) → Valid m → Keeps m (unregister e m)
 unfolding unregister
-unregister-fair e m f =
+unregister-valid e m f =
     let c = conditions m f in
     by-cond (Keeps m) (ltb 127 e) (λ t. f) (λ te.
     by-cond (Keeps m) (hasEntry e m)
     (λ he. of-conditions (without e m) (record { range = without-range e 511 m (c .range); once = without-once e m (c .once); rises = without-rising e 0 m (c .rises) }))
     (λ t. f))
 
-poll-fair : (x : ℕ) (loopBack : Bool) (m : Registry) → Fair m → Keeps m (pollPush x loopBack m)
+poll-valid : (x : ℕ) (loopBack : Bool) (m : Registry) → Valid m → Keeps m (pollPush x loopBack m)
 unfolding pollPush
-poll-fair x loopBack m f = by-cond (Keeps m) (ltb 511 x) (λ t. f) (λ t. f)
+poll-valid x loopBack m f = by-cond (Keeps m) (ltb 511 x) (λ t. f) (λ t. f)
 
-pub step-fair : (k : Call) (m : Registry) → Fair m → Fair (left m (step k m))
-step-fair (Register e x) = register-fair e x
-step-fair (Unregister e) = unregister-fair e
-step-fair (PollPush x loopBack) = poll-fair x loopBack
+pub step-valid : (k : Call) (m : Registry) → Valid m → Valid (left m (step k m))
+step-valid (Register e x) = register-valid e x
+step-valid (Unregister e) = unregister-valid e
+step-valid (PollPush x loopBack) = poll-valid x loopBack

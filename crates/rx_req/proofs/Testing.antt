@@ -14,25 +14,25 @@ use Rattle.entry_tree.specs.Places.{treeLength, size, read}
 use Rattle.entry_tree.specs.Testing.{pairsFitB}
 use Rattle.entry_tree.proofs.Once.{Once, once-of, of-once}
 use Rattle.entry_tree.proofs.Passing.{order-rising}
-use Rattle.rx_req.specs.Registry.{Registry, wholeB as fairB}
+use Rattle.rx_req.specs.Registry.{Registry, wholeB as validB}
 use Rattle.rx_req.specs.Bytes.{wholeB}
 
--- ---- a fair meaning
+-- ---- a valid meaning
 
 pub record Conditions (m : Registry) : Type 0 where
   pub range : inRange 511 m ≡ true
   pub once : Once m
   pub rises : rising 0 m ≡ true
 
-pub conditions : (m : Registry) → fairB m ≡ true → Conditions m
-unfolding fairB
+pub conditions : (m : Registry) → validB m ≡ true → Conditions m
+unfolding validB
 conditions m h =
     let range = and-l (inRange 511 m) (allB 128 (onceB m) && rising 0 m) h in
     let rest = and-r (inRange 511 m) (allB 128 (onceB m) && rising 0 m) h in
     record { range = range; once = once-of 511 m range (and-l (allB 128 (onceB m)) (rising 0 m) rest); rises = and-r (allB 128 (onceB m)) (rising 0 m) rest }
 
-pub of-conditions : (m : Registry) → Conditions m → fairB m ≡ true
-unfolding fairB
+pub of-conditions : (m : Registry) → Conditions m → validB m ≡ true
+unfolding validB
 of-conditions m c = rw (c .range, of-once m (c .once), c .rises)
 
 -- ---- whole bytes
@@ -47,25 +47,25 @@ module _ (s : List ℕ) where
     unfolding wholeB
     no-size h = rw (eq-eqb (length s) treeLength l, lt-leb (size s) 128 h)
 
-    pub sized : size s ≤ 128 → wholeB s ≡ fairB (read s)
+    pub sized : size s ≤ 128 → wholeB s ≡ validB (read s)
     unfolding wholeB
     sized h = rw (eq-eqb (length s) treeLength l, le-leb (size s) 128 h)
 
     pub pairs-test : size s ≤ 128 → pairsFitB 511 0 (read s) ≡ wholeB s
-    unfolding pairsFitB fairB wholeB
+    unfolding pairsFitB validB wholeB
     pairs-test h = rw (eq-eqb (length s) treeLength l, le-leb (size s) 128 h, order-rising 0 (read s))
 
   pub record Known : Type 0 where
     pub long : length s ≡ treeLength
     pub few : size s ≤ 128
-    pub fair : fairB (read s) ≡ true
+    pub valid : validB (read s) ≡ true
 
   pub known : wholeB s ≡ true → Known
   unfolding wholeB
   known h =
-      let rest = and-r (eqb (length s) treeLength) (leb (size s) 128 && fairB (read s)) h in
+      let rest = and-r (eqb (length s) treeLength) (leb (size s) 128 && validB (read s)) h in
       record {
-        long = eqb-true (length s) treeLength (and-l (eqb (length s) treeLength) (leb (size s) 128 && fairB (read s)) h);
-        few = leb-true (size s) 128 (and-l (leb (size s) 128) (fairB (read s)) rest);
-        fair = and-r (leb (size s) 128) (fairB (read s)) rest;
+        long = eqb-true (length s) treeLength (and-l (eqb (length s) treeLength) (leb (size s) 128 && validB (read s)) h);
+        few = leb-true (size s) 128 (and-l (leb (size s) 128) (validB (read s)) rest);
+        valid = and-r (leb (size s) 128) (validB (read s)) rest;
       }

@@ -14,8 +14,8 @@ use Rattle.rx_req.specs.Calls.{opening}
 use Rattle.rx_req.specs.declared.Answer.{Answer}
 use Rattle.rx_req.specs.declared.Answer.the-variants.{Refused}
 
-abbrev pub Fair : Registry → Type 0
-Fair m = registry.wholeB m ≡ true
+abbrev pub Valid : Registry → Type 0
+Valid m = registry.wholeB m ≡ true
 
 abbrev pub Sized : Registry → ℕ → Type 0
 Sized m n = n ≡ requestsLength
@@ -23,4 +23,4 @@ Sized m n = n ≡ requestsLength
 pub record RequestsMeans : Type 0 where
   -- opened bytes are whole
   pub opened : (b : ℕ) (a : Answer) (m : Registry) → opening b ≡ done a m → wholeB (laid m (replicate b 0)) ≡ true
-  pub meaning : Means wholeB read laid (Refused 1) Fair Sized step
+  pub meaning : Means wholeB read laid (Refused 1) Valid Sized step

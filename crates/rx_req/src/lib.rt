@@ -26,7 +26,7 @@ pub enum Answer {
     NotPushed,
 }
 
-// What is proved of the request registry's bytes and calls.
+// Does nothing: its contract is the theorem of specs/Means.antt.
 pub fn meaning()
     ensures { λ _. ⌜ RequestsMeans ⌝ }
 {}

@@ -41,32 +41,32 @@ pub record Kept {A M : Type 0} (whole : List ℕ → Bool) (read : List ℕ → 
   pub are-whole : whole (bytes laid b o) ≡ true
   pub meaning : read (bytes laid b o) ≡ left (read b) r
 
-module _ {A M : Type 0} (whole : List ℕ → Bool) (read : List ℕ → M) (laid : M → List ℕ → List ℕ) (one : A) (Fair : M → Type 0) (Sized : M → ℕ → Type 0)
-    (laid-bytes : (m : M) (b : List ℕ) → Bytes b → Fair m → Sized m (length b) → Bytes (laid m b))
-    (laid-whole : (m : M) (b : List ℕ) → Bytes b → Fair m → Sized m (length b) → whole (laid m b) ≡ true)
-    (read-laid : (m : M) (b : List ℕ) → Bytes b → Fair m → Sized m (length b) → read (laid m b) ≡ m)
+module _ {A M : Type 0} (whole : List ℕ → Bool) (read : List ℕ → M) (laid : M → List ℕ → List ℕ) (one : A) (Valid : M → Type 0) (Sized : M → ℕ → Type 0)
+    (laid-bytes : (m : M) (b : List ℕ) → Bytes b → Valid m → Sized m (length b) → Bytes (laid m b))
+    (laid-whole : (m : M) (b : List ℕ) → Bytes b → Valid m → Sized m (length b) → whole (laid m b) ≡ true)
+    (read-laid : (m : M) (b : List ℕ) → Bytes b → Valid m → Sized m (length b) → read (laid m b) ≡ m)
   where
-    after : (b : List ℕ) (r : Result A M) → Bytes b → whole b ≡ true → Fair (left (read b) r) → Sized (left (read b) r) (length b) → Kept whole read laid b r r
+    after : (b : List ℕ) (r : Result A M) → Bytes b → whole b ≡ true → Valid (left (read b) r) → Sized (left (read b) r) (length b) → Kept whole read laid b r r
     after b (refuse a) y h f z = record { are-bytes = y; are-whole = h; meaning = refl }
     after b (done a m) y h f z = record { are-bytes = laid-bytes m b y f z; are-whole = laid-whole m b y f z; meaning = read-laid m b y f z }
 
-    pub kept : (f : M → Result A M) (b : List ℕ) → Bytes b → whole b ≡ true → Fair (left (read b) (f (read b))) → Sized (left (read b) (f (read b))) (length b)
+    pub kept : (f : M → Result A M) (b : List ℕ) → Bytes b → whole b ≡ true → Valid (left (read b) (f (read b))) → Sized (left (read b) (f (read b))) (length b)
         → Kept whole read laid b (called whole read one f b) (f (read b))
     kept f b y h w z = rw (is-whole whole read laid one f b h) (after b (f (read b)) y h w z)
 
     pub means-of : {K : Type 0} (step : K → M → Result A M)
-        → ((b : List ℕ) → Bytes b → whole b ≡ true → Fair (read b)) → ((b : List ℕ) → whole b ≡ true → Sized (read b) (length b)) → ((b : List ℕ) → Bytes b → whole b ≡ true → laid (read b) b ≡ b)
-        → ((k : K) (m : M) → Fair m → Fair (left m (step k m))) → ((k : K) (m : M) (n : ℕ) → Fair m → Sized m n → Sized (left m (step k m)) n)
-        → Means whole read laid one Fair Sized step
-    means-of {K = K} step fair sized self keeps keeps-size =
+        → ((b : List ℕ) → Bytes b → whole b ≡ true → Valid (read b)) → ((b : List ℕ) → whole b ≡ true → Sized (read b) (length b)) → ((b : List ℕ) → Bytes b → whole b ≡ true → laid (read b) b ≡ b)
+        → ((k : K) (m : M) → Valid m → Valid (left m (step k m))) → ((k : K) (m : M) (n : ℕ) → Valid m → Sized m n → Sized (left m (step k m)) n)
+        → Means whole read laid one Valid Sized step
+    means-of {K = K} step valid sized self keeps keeps-size =
         record {
-          whole-fair = fair;
+          whole-valid = valid;
           whole-sized = sized;
           laid-read = self;
           laid-bytes = laid-bytes;
           laid-whole = laid-whole;
           read-laid = read-laid;
-          step-fair = keeps;
+          step-valid = keeps;
           step-sized = keeps-size;
           keeps-bytes = λ k b y h. all k b y h .are-bytes;
           keeps-whole = λ k b y h. all k b y h .are-whole;
@@ -74,4 +74,4 @@ module _ {A M : Type 0} (whole : List ℕ → Bool) (read : List ℕ → M) (lai
         }
       where
         all : (k : K) (b : List ℕ) → Bytes b → whole b ≡ true → Kept whole read laid b (called whole read one (step k) b) (step k (read b))
-        all k b y h = kept (step k) b y h (keeps k (read b) (fair b y h)) (keeps-size k (read b) (length b) (fair b y h) (sized b h))
+        all k b y h = kept (step k) b y h (keeps k (read b) (valid b y h)) (keeps-size k (read b) (length b) (valid b y h) (sized b h))

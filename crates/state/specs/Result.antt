@@ -33,19 +33,19 @@ left m (done a n) = n
 abbrev pub Bytes : List ℕ → Type 0
 Bytes b = (i : ℕ) → getD b i 0 < 256
 
--- What is proved of each kind. `Fair` is wholeness as document 01 words it, on the plain meaning; `Sized m n`, that m has n bytes.
-pub record Means {A M K : Type 0} (whole : List ℕ → Bool) (read : List ℕ → M) (laid : M → List ℕ → List ℕ) (one : A) (Fair : M → Type 0) (Sized : M → ℕ → Type 0) (step : K → M → Result A M) : Type 0 where
-  -- whole bytes mean something fair, and are the bytes of what they mean
-  pub whole-fair : (b : List ℕ) → Bytes b → whole b ≡ true → Fair (read b)
+-- What is proved of each kind. `Valid` is wholeness as document 01 words it, on the plain meaning; `Sized m n`, that m has n bytes.
+pub record Means {A M K : Type 0} (whole : List ℕ → Bool) (read : List ℕ → M) (laid : M → List ℕ → List ℕ) (one : A) (Valid : M → Type 0) (Sized : M → ℕ → Type 0) (step : K → M → Result A M) : Type 0 where
+  -- whole bytes mean something valid, and are the bytes of what they mean
+  pub whole-valid : (b : List ℕ) → Bytes b → whole b ≡ true → Valid (read b)
   pub whole-sized : (b : List ℕ) → whole b ≡ true → Sized (read b) (length b)
   pub laid-read : (b : List ℕ) → Bytes b → whole b ≡ true → laid (read b) b ≡ b
-  -- whatever is fair is laid out as whole bytes, which mean it
-  pub laid-bytes : (m : M) (b : List ℕ) → Bytes b → Fair m → Sized m (length b) → Bytes (laid m b)
-  pub laid-whole : (m : M) (b : List ℕ) → Bytes b → Fair m → Sized m (length b) → whole (laid m b) ≡ true
-  pub read-laid : (m : M) (b : List ℕ) → Bytes b → Fair m → Sized m (length b) → read (laid m b) ≡ m
-  -- each call keeps a fair meaning fair, and its size
-  pub step-fair : (k : K) (m : M) → Fair m → Fair (left m (step k m))
-  pub step-sized : (k : K) (m : M) (n : ℕ) → Fair m → Sized m n → Sized (left m (step k m)) n
+  -- whatever is valid is laid out as whole bytes, which mean it
+  pub laid-bytes : (m : M) (b : List ℕ) → Bytes b → Valid m → Sized m (length b) → Bytes (laid m b)
+  pub laid-whole : (m : M) (b : List ℕ) → Bytes b → Valid m → Sized m (length b) → whole (laid m b) ≡ true
+  pub read-laid : (m : M) (b : List ℕ) → Bytes b → Valid m → Sized m (length b) → read (laid m b) ≡ m
+  -- each call keeps a valid meaning valid, and its size
+  pub step-valid : (k : K) (m : M) → Valid m → Valid (left m (step k m))
+  pub step-sized : (k : K) (m : M) (n : ℕ) → Valid m → Sized m n → Sized (left m (step k m)) n
   -- so a call keeps whole bytes whole, and they then mean what the call leaves of the meaning
   pub keeps-bytes : (k : K) (b : List ℕ) → Bytes b → whole b ≡ true → Bytes (bytes laid b (called whole read one (step k) b))
   pub keeps-whole : (k : K) (b : List ℕ) → Bytes b → whole b ≡ true → whole (bytes laid b (called whole read one (step k) b)) ≡ true

@@ -18,3 +18,15 @@ pub fn fill(s: &mut [u8], v: u8)
         i += 1;
     }
 }
+
+// `to` becomes `from`, of the same length.
+pub fn copy(from: &[u8], to: &mut [u8])
+    requires { ⌜ length (now from) ≡ length (now to) ⌝ }
+    ensures { λ _. ⌜ now (to .exit) ≡ now (from .entry) ⌝ }
+{
+    let mut i = 0;
+    while i < from.len() {
+        to[i] = from[i];
+        i += 1;
+    }
+}

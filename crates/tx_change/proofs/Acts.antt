@@ -19,12 +19,12 @@ use Rattle.multi_cycle_list.specs.Laid as lists
 use Rattle.multi_cycle_list.proofs.Laid as listsLaid
 use Rattle.tx_queue.specs.TxQueue.{Sets, Pick, TxQueue, fresh, place, setsOf}
 use Rattle.tx_queue.specs.Bytes.{queuePart, readyAt, startedAt, flagAt, read, wholeB, readyOver, startedOver, flagOver, pickMaskOver, mtuOf, laid}
-use Rattle.tx_queue.specs.Steps.{seated, becomes, withMask, withPick, sets}
+use Rattle.tx_queue.specs.Steps.{requeued, becomes, withMask, withPick, sets}
 use Rattle.tx_queue.proofs.Parts.{Joined, split, tailOf, queueOf, readyLaid, startedLaid, flagsLaid, tailLaid, laid-joined, flag-at, put-queue, set-ready, set-started, set-flag, set-tail, laid-from}
 use Rattle.tx_queue.proofs.Reading.{known, queues-long}
-use Rattle.tx_fair.proofs.Seats.{seated-long}
-use Rattle.tx_fair.proofs.Mean.{none-at}
-use Rattle.tx_fair.proofs.Reading.{split-whole, queue-read, queue-self, ready-self, started-self, flag-self, tail-self, laid-read, part-set, part-kept}
+use Rattle.tx_valid.proofs.Placed.{requeued-long}
+use Rattle.tx_valid.proofs.Mean.{none-at}
+use Rattle.tx_valid.proofs.Reading.{split-whole, queue-read, queue-self, ready-self, started-self, flag-self, tail-self, laid-read, part-set, part-kept}
 use Rattle.tx_change.specs.Inner.{withQueues, withSets}
 
 -- ---- opening
@@ -53,27 +53,27 @@ module _ (s : List ℕ) (y : Bytes s) (h : wholeB s ≡ true) (e : ℕ) (he : e 
   -- the queues
 
   module _ (from to : ℕ) where
-    pub seat-out : 16 ≤ to → (p : List ℕ) → p ≡ lists.laid (without-entry e (nodes.read (queuePart s))) → putMid 0 290 s p ≡ withQueues s (seated from to e (m .queues))
-    seat-out l p q = rw (le-ltb to 16 l) (ap (λ (z : List ℕ). z ++ drop 290 s) (q ∙ ap (λ (z : Lists). lists.laid (without-entry e z)) (queue-read s y h)))
+    pub requeue-out : 16 ≤ to → (p : List ℕ) → p ≡ lists.laid (without-entry e (nodes.read (queuePart s))) → putMid 0 290 s p ≡ withQueues s (requeued from to e (m .queues))
+    requeue-out l p q = rw (le-ltb to 16 l) (ap (λ (z : List ℕ). z ++ drop 290 s) (q ∙ ap (λ (z : Lists). lists.laid (without-entry e z)) (queue-read s y h)))
 
-    pub seat-back : to < 16 → from ≢ to → (p : List ℕ) → p ≡ lists.laid (movedBack to e (nodes.read (queuePart s))) → putMid 0 290 s p ≡ withQueues s (seated from to e (m .queues))
-    seat-back l n p q = rw (lt-ltb to 16 l, ne-eqb from to n) (ap (λ (z : List ℕ). z ++ drop 290 s) (q ∙ ap (λ (z : Lists). lists.laid (movedBack to e z)) (queue-read s y h)))
+    pub requeue-back : to < 16 → from ≢ to → (p : List ℕ) → p ≡ lists.laid (movedBack to e (nodes.read (queuePart s))) → putMid 0 290 s p ≡ withQueues s (requeued from to e (m .queues))
+    requeue-back l n p q = rw (lt-ltb to 16 l, ne-eqb from to n) (ap (λ (z : List ℕ). z ++ drop 290 s) (q ∙ ap (λ (z : Lists). lists.laid (movedBack to e z)) (queue-read s y h)))
 
-    pub seat-same : to < 16 → from ≡ to → s ≡ withQueues s (seated from to e (m .queues))
-    seat-same l q = rw (lt-ltb to 16 l, eq-eqb from to q) (sym (take-append-drop 290 s) ∙ ap (λ (z : List ℕ). z ++ drop 290 s) (queue-self s y h))
+    pub requeue-same : to < 16 → from ≡ to → s ≡ withQueues s (requeued from to e (m .queues))
+    requeue-same l q = rw (lt-ltb to 16 l, eq-eqb from to q) (sym (take-append-drop 290 s) ∙ ap (λ (z : List ℕ). z ++ drop 290 s) (queue-self s y h))
 
     abbrev Q : List ℕ
-    Q = lists.laid (record { entries = 128; rows = seated from to e (m .queues) })
+    Q = lists.laid (record { entries = 128; rows = requeued from to e (m .queues) })
 
-    J : Joined (withQueues s (seated from to e (m .queues))) Q (each 128 (readyAt s)) (each 128 (startedAt s)) (each 128 (flagAt s)) (tailOf s)
+    J : Joined (withQueues s (requeued from to e (m .queues))) Q (each 128 (readyAt s)) (each 128 (startedAt s)) (each 128 (flagAt s)) (tailOf s)
     J =
-        let n = seated-long e from to (m .queues) (queues-long s (known s h .sizes)) in
+        let n = requeued-long e from to (m .queues) (queues-long s (known s h .sizes)) in
         put-queue s (queuePart s) (each 128 (readyAt s)) (each 128 (startedAt s)) (each 128 (flagAt s)) (tailOf s) (split-whole s y h) Q
-        (listsLaid.out-length (length (seated from to e (m .queues))) 128 (lists.arcs (length (seated from to e (m .queues))) 0 (seated from to e (m .queues))) ∙ omega (arith, n))
+        (listsLaid.out-length (length (requeued from to e (m .queues))) 128 (lists.arcs (length (requeued from to e (m .queues))) 0 (requeued from to e (m .queues))) ∙ omega (arith, n))
 
   -- the entry gets the sets
 
-  pub became : (from ready started : ℕ) → set (withSets (withQueues s (seated from (place (sets ready started)) e (m .queues))) e ready started) 676 0 ≡ laid (becomes e from (sets ready started) m) s
+  pub became : (from ready started : ℕ) → set (withSets (withQueues s (requeued from (place (sets ready started)) e (m .queues))) e ready started) 676 0 ≡ laid (becomes e from (sets ready started) m) s
   became from ready started =
       let o = sets ready started in
       let q = Q from (place o) in
@@ -81,7 +81,7 @@ module _ (s : List ℕ) (y : Bytes s) (h : wholeB s ≡ true) (e : ℕ) (he : e 
       let t = each 128 (startedAt s) in
       let f = each 128 (flagAt s) in
       let w = tailOf s in
-      let s1 = withQueues s (seated from (place o) e (m .queues)) in
+      let s1 = withQueues s (requeued from (place o) e (m .queues)) in
       let j1 = J from (place o) in
       let v = cond (eqb (flagAt s1 e) 0) 1 (flagAt s1 e) in
       let j2 = set-ready s1 q r t f w j1 e ready he in
@@ -100,8 +100,8 @@ module _ (s : List ℕ) (y : Bytes s) (h : wholeB s ≡ true) (e : ℕ) (he : e 
 
   pub left : m .pick ≡ none → (from : ℕ) (p : List ℕ) → p ≡ lists.laid (without-entry e (nodes.read (queuePart s))) → set (putMid 0 290 s p) (546 + e) 0 ≡ laid (becomes e from none m) s
   left c from p q =
-      ap (λ (z : List ℕ). set z (546 + e) 0) (seat-out from 16 (omega arith) p q)
-      ∙ laid-from (becomes e from none m) s (set-flag (withQueues s (seated from 16 e (m .queues))) (Q from 16) (each 128 (readyAt s)) (each 128 (startedAt s)) (each 128 (flagAt s)) (tailOf s) (J from 16) e 0 he)
+      ap (λ (z : List ℕ). set z (546 + e) 0) (requeue-out from 16 (omega arith) p q)
+      ∙ laid-from (becomes e from none m) s (set-flag (withQueues s (requeued from 16 e (m .queues))) (Q from 16) (each 128 (readyAt s)) (each 128 (startedAt s)) (each 128 (flagAt s)) (tailOf s) (J from 16) e 0 he)
       refl
       (part-kept s (becomes e from none m) e none he refl (readyAt s) readyOver (ready-self s y h) refl)
       (part-kept s (becomes e from none m) e none he refl (startedAt s) startedOver (started-self s y h) refl)

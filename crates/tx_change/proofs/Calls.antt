@@ -21,9 +21,9 @@ use Rattle.tx_queue.specs.Steps.{isOpen, isRegistered, wakes, becomes, withMask
 use Rattle.tx_queue.specs.declared.Answer.{Answer}
 use Rattle.tx_queue.specs.declared.Answer.the-variants.{Refused, Accepted, Picked, Nothing, Settled}
 use Rattle.tx_queue.proofs.Reading.{sets-at, known, conditions, queues-long}
-use Rattle.tx_fair.proofs.Seats.{seated-long}
-use Rattle.tx_fair.proofs.Keeping.{pick-filled, picked-inside, picked-seat}
-use Rattle.tx_fair.proofs.Reading.{read-fair, laid-read}
+use Rattle.tx_valid.proofs.Placed.{requeued-long}
+use Rattle.tx_valid.proofs.Keeping.{pick-filled, picked-inside, picked-place}
+use Rattle.tx_valid.proofs.Reading.{read-valid, laid-read}
 use Rattle.tx_change.specs.Inner.{framed, unframed, fitsPick}
 use Rattle.tx_change.proofs.Looks.{open-is, registered-is}
 use Rattle.tx_change.proofs.Acts.{masked, mask-over}
@@ -142,7 +142,7 @@ module _ (s : List ℕ) (y : Bytes s) (h : wholeB s ≡ true) (k : ℕ) (l : k <
   -- the entry that the pick named, as the code has it
   module _ (e : ℕ) (q : e ≡ picked k m) where
     pub entry-inside : e < 128
-    entry-inside = omega (arith, picked-inside m (read-fair s y h) k l)
+    entry-inside = omega (arith, picked-inside m (read-valid s y h) k l)
 
     -- and its started set x with the pick's priority in it or not, the wake w and the bytes t
     module _ (from r : ℕ) (X x : ℕ) (z : x ≡ X) (w : Bool) (i : w ≡ wakes from (place (sets r x)) (m .mask)) where
@@ -155,7 +155,7 @@ module _ (s : List ℕ) (y : Bytes s) (h : wholeB s ≡ true) (k : ℕ) (l : k <
     module _ (f : filled (getD (m .queues) k []) ≡ true) where
       picked-started : startedAt s e ≡ startedOf (setsOf m (picked k m))
       picked-started =
-          started-is s e entry-inside (ap (λ (v : ℕ). isRegistered (setsOf m v)) q ∙ placed-registered (setsOf m (picked k m)) k (picked-seat m (read-fair s y h) k l f) l)
+          started-is s e entry-inside (ap (λ (v : ℕ). isRegistered (setsOf m v)) q ∙ placed-registered (setsOf m (picked k m)) k (picked-place m (read-valid s y h) k l f) l)
           ∙ ap (λ (v : ℕ). startedOf (setsOf m v)) q
 
       module _ (r x : ℕ) (w : Bool) (t : List ℕ) where
@@ -177,7 +177,7 @@ module _ (s : List ℕ) (y : Bytes s) (h : wholeB s ≡ true) (k : ℕ) (l : k <
             let v : x ≡ X = z ∙ picked-started in (
               settled-says k r X x v w i,
               ap (λ (b : List ℕ). set b 674 mask) (settled-then k r X x v w i t u)
-                  ∙ mask-over (becomes (picked k m) k (sets r X) m) s (seated-long (picked k m) k (place (sets r X)) (m .queues) (queues-long s (known s h .sizes))) mask,
+                  ∙ mask-over (becomes (picked k m) k (sets r X) m) s (requeued-long (picked k m) k (place (sets r X)) (m .queues) (queues-long s (known s h .sizes))) mask,
             )
 
 -- ---- settling
@@ -194,7 +194,7 @@ module _ (s : List ℕ) (y : Bytes s) (h : wholeB s ≡ true) (c : isOpen (read 
       omega (arith, ltb-true (firstQueue (getD s 675 0) (read s)) 16 (and-r (mtuB (getD s 676 0)) (ltb (firstQueue (getD s 675 0) (read s)) 16) z))
 
   pub queue-filled : filled (getD (read s .queues) k []) ≡ true
-  queue-filled = ap (λ (j : ℕ). filled (getD (read s .queues) j [])) q ∙ pick-filled (read s) (read-fair s y h) (getD s 675 0) (omega (arith, queue-below))
+  queue-filled = ap (λ (j : ℕ). filled (getD (read s .queues) j [])) q ∙ pick-filled (read s) (read-valid s y h) (getD s 675 0) (omega (arith, queue-below))
 
 module _ (m : TxQueue) (frame : Bool) (r priority length last : ℕ) where
   abbrev o : Option Frame

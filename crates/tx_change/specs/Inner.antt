@@ -22,7 +22,7 @@ withSets s e ready started =
     let t = set (set s (290 + e) ready) (418 + e) started in
     set t (546 + e) (cond (eqb (getD s (546 + e) 0) 0) 1 (getD s (546 + e) 0))
 
--- the entry that a pick of the queue k named, and its started set
+-- settlements of the entry that a pick of the queue k named, by its started set: with a frame, and with none
 abbrev pub framed : Bool → ℕ → ℕ → TxQueue → Result Answer TxQueue
 framed eot r k m = steps.framed eot r (picked k m) k (startedOf (setsOf m (picked k m))) m
 

@@ -1,4 +1,4 @@
-// What the transmit registries' calls do once the bytes are known whole. Inner: these cross crates and may require.
+// What the transmit registries' calls do once the bytes are known whole. Inner functions: other crates call them, and they may have preconditions.
 use emcyphal_core::Priority;
 use emcyphal_core::PrioritySet;
 use format::TailByte;
@@ -25,7 +25,7 @@ ghost use Rattle.tx_queue.specs.TxQueue as queue;
 ghost use Rattle.tx_queue.specs.TxQueue.{setsOf, filled, fresh};
 ghost use Rattle.tx_queue.specs.Bytes.{wholeB, read, laid};
 ghost use Rattle.tx_queue.specs.Steps as steps;
-ghost use Rattle.tx_queue.specs.Steps.{isOpen, isRegistered, seated, becomes, sets, picked, reported, register, unregister, update, pick, settle};
+ghost use Rattle.tx_queue.specs.Steps.{isOpen, isRegistered, requeued, becomes, sets, picked, reported, register, unregister, update, pick, settle};
 ghost use Rattle.tx_queue.specs.Calls.{bytes};
 ghost use Rattle.tx_change.specs.Inner.{withQueues, withSets, framed, unframed, fitsPick};
 
@@ -69,9 +69,9 @@ fn wakes(mask: u8, from: u8, to: u8) -> bool
 }
 
 // The entry, which stands in the queue `from`, belongs in the queue `to`.
-fn seat(s: &mut [u8], entry: u8, from: u8, to: u8)
+fn requeue(s: &mut [u8], entry: u8, from: u8, to: u8)
     requires { ⌜ (wholeB (now s) ≡ true) × (entry < 128) ⌝ }
-    ensures { λ _. ⌜ now (s .exit) ≡ withQueues (now (s .entry)) (seated «from» to «entry» (read (now (s .entry)) .queues)) ⌝ }
+    ensures { λ _. ⌜ now (s .exit) ≡ withQueues (now (s .entry)) (requeued «from» to «entry» (read (now (s .entry)) .queues)) ⌝ }
 {
     if 16 <= to {
         inner_remove(&mut s[0..290], entry as usize);
@@ -100,7 +100,7 @@ pub fn becomes(s: &mut [u8], entry: u8, from: u8, ready: u8, started: u8) -> boo
 {
     let to = place(ready, started);
     let wake = wakes(s[674], from, to);
-    seat(s, entry, from, to);
+    requeue(s, entry, from, to);
     set_sets(s, entry as usize, ready, started);
     s[676] = 0;
     wake

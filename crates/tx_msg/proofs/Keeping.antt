@@ -1,4 +1,4 @@
--- Each call keeps a fair registry fair: the queue by its own call, and an entry has a subject just as long as it is registered.
+-- Each call keeps a valid registry valid: the queue by its own call, and an entry has a subject just as long as it is registered.
 use Prim.Native.Nat.{ℕ, zero-le, _/_, _<_}
 use mathlib.Core.Path.{_≡_, refl, sym, ap, _∙_}
 use mathlib.Core.Logic.{_≢_}
@@ -22,12 +22,12 @@ use Rattle.tx_queue.specs.Steps as queue
 use Rattle.tx_queue.specs.Steps.{Frame, isRegistered, isOpen, isEot, becomes, startedOf, picked, settles, wrongFrame, settlePick, wrongPriority, Register, Update, PickFrame, Settle, Unregister}
 use Rattle.tx_queue.specs.declared.Answer.{Answer}
 use Rattle.tx_queue.proofs.Reading.{Conditions, conditions}
-use Rattle.tx_fair.specs.Means as fair
-use Rattle.tx_fair.proofs.Keeping as queues
+use Rattle.tx_valid.specs.Means as valid
+use Rattle.tx_valid.proofs.Keeping as queues
 use Rattle.tx_msg.specs.Registry.{Registry}
 use Rattle.tx_msg.specs.Steps as messages
 use Rattle.tx_msg.specs.Steps.{with, Call, step, register}
-use Rattle.tx_msg.specs.Means.{Fair}
+use Rattle.tx_msg.specs.Means.{Valid}
 use Rattle.tx_msg.proofs.Facts.{Named, Facts, facts-of, of-facts}
 
 -- ---- who is registered
@@ -36,7 +36,7 @@ use Rattle.tx_msg.proofs.Facts.{Named, Facts, facts-of, of-facts}
 abbrev Same : TxQueue → TxQueue → Type 0
 Same q p = (e : ℕ) → e < 128 → isRegistered (setsOf p e) ≡ isRegistered (setsOf q e)
 
-module _ (q : TxQueue) (f : fair.Fair q) where
+module _ (q : TxQueue) (f : valid.Valid q) where
   c : Conditions q
   c = conditions q (f .whole)
 
@@ -55,9 +55,9 @@ module _ (q : TxQueue) (f : fair.Fair q) where
   ]
 
   -- the entry that a pick names
-  seated : (o : Option Sets) → place o < 16 → isRegistered o ≡ true
-  seated none l = absurd (omega arith)
-  seated (some s) l = refl
+  requeued : (o : Option Sets) → place o < 16 → isRegistered o ≡ true
+  requeued none l = absurd (omega arith)
+  requeued (some s) l = refl
 
   abbrev Keeps : Result Answer TxQueue → Type 0
   Keeps o = Same q (left q o)
@@ -77,8 +77,8 @@ module _ (q : TxQueue) (f : fair.Fair q) where
       let k = firstQueue (p .mask) q in
       let e = picked k q in
       let l = ltb-true k 16 (and-r (mtuB (p .mtu)) (ltb k 16) h) in
-      let s = queues.picked-seat q f k l (queues.pick-filled q f (p .mask) l) in
-      by-cond Keeps (wrongFrame o k p) (λ _. as-is) (λ _. settles-same o r e k (startedOf (setsOf q e)) (p .mask) (seated (setsOf q e) (omega (arith, s))))
+      let s = queues.picked-place q f k l (queues.pick-filled q f (p .mask) l) in
+      by-cond Keeps (wrongFrame o k p) (λ _. as-is) (λ _. settles-same o r e k (startedOf (setsOf q e)) (p .mask) (requeued (setsOf q e) (omega (arith, s))))
 
   update-same : (e r : ℕ) → Keeps (queue.update e r q)
   unfolding queue.update
@@ -118,12 +118,12 @@ module _ (q : TxQueue) (f : fair.Fair q) where
 
 -- ---- the calls
 
-module _ (m : Registry) (f : Fair m) where
+module _ (m : Registry) (f : Valid m) where
   F : Facts m
   F = facts-of m (f .whole)
 
   -- the subjects stay, and who is registered
-  kept : (o : Result Answer TxQueue) → fair.Fair (left (m .queue) o) → Same (m .queue) (left (m .queue) o) → Fair (left m (with (m .subjects) o))
+  kept : (o : Result Answer TxQueue) → valid.Valid (left (m .queue) o) → Same (m .queue) (left (m .queue) o) → Valid (left m (with (m .subjects) o))
   kept (refuse a) g s = f
   kept (done a p) g s = record {
     whole = of-facts (record { subjects = m .subjects; queue = p }) (record { queue = g .whole; range = F .range; once = F .once; rises = F .rises; named = λ e l. s e l ∙ F .named e l });
@@ -131,11 +131,11 @@ module _ (m : Registry) (f : Fair m) where
   }
 
   abbrev Leaves : ℕ → Result Answer TxQueue → Type 0
-  Leaves e o = fair.Fair (left (m .queue) o) → Fair (left m (with (without e (m .subjects)) o))
+  Leaves e o = valid.Valid (left (m .queue) o) → Valid (left m (with (without e (m .subjects)) o))
 
-  unregister-fair : (e : ℕ) → Fair (left m (messages.unregister e m))
+  unregister-valid : (e : ℕ) → Valid (left m (messages.unregister e m))
   unfolding queue.unregister
-  unregister-fair e =
+  unregister-valid e =
       by-cond (Leaves e) (ltb 127 e) (λ _ _. f) (λ _.
       by-cond (Leaves e) (isOpen (m .queue .pick)) (λ _ _. f) (λ _.
       by-cond (Leaves e) (isRegistered (setsOf (m .queue) e)) (λ _ g. record {
@@ -148,21 +148,21 @@ module _ (m : Registry) (f : Fair m) where
         });
         queue = g;
       }) (λ _ _. f)))
-      (queues.step-fair (Unregister e) (m .queue) (f .queue))
+      (queues.step-valid (Unregister e) (m .queue) (f .queue))
 
   abbrev Left : Result Answer Registry → Type 0
-  Left o = Fair (left m o)
+  Left o = Valid (left m o)
 
-  register-fair : (e x r : ℕ) → r < 256 → Fair (left m (register e x r m))
+  register-valid : (e x r : ℕ) → r < 256 → Valid (left m (register e x r m))
   unfolding register queue.register
-  register-fair e x r h =
+  register-valid e x r h =
       by-cond Left (ltb 127 e) (λ _. f) (λ te.
       by-cond Left (ltb 8191 x) (λ _. f) (λ tx.
       by-cond Left (isOpen (m .queue .pick)) (λ _. f) (λ to.
       by-cond Left (isRegistered (setsOf (m .queue) e)) (λ _. f) (λ tr.
       by-cond Left (hasSubject x (m .subjects)) (λ _. f) (λ ts.
       let q : TxQueue = becomes e 16 (queue.sets r 0) (m .queue) in
-      let g : fair.Fair q = rw (te, to, tr) at (queues.step-fair (Register e r h) (m .queue) (f .queue)) in
+      let g : valid.Valid q = rw (te, to, tr) at (queues.step-valid (Register e r h) (m .queue) (f .queue)) in
       let out : hasEntry e (m .subjects) ≡ false = sym (F .named e (omega (arith, ltb-false 127 e te))) ∙ tr in
       record {
         whole = of-facts (record { subjects = inserted (pair e x) (m .subjects); queue = q }) (record {
@@ -175,12 +175,12 @@ module _ (m : Registry) (f : Fair m) where
         queue = g;
       })))))
 
-  keeps : (k : Call) → Fair (left m (step k m))
-  keeps (messages.Unregister e) = unregister-fair e
-  keeps (messages.Register e x r h) = register-fair e x r h
-  keeps (messages.Update e r h) = kept (queue.update e r (m .queue)) (queues.step-fair (Update e r h) (m .queue) (f .queue)) (update-same (m .queue) (f .queue) e r)
-  keeps (messages.PickFrame mask mtu h) = kept (queue.pick mask mtu (m .queue)) (queues.step-fair (PickFrame mask mtu h) (m .queue) (f .queue)) (pick-same (m .queue) (f .queue) mask mtu)
-  keeps (messages.Settle o r h) = kept (queue.settle o r (m .queue)) (queues.step-fair (Settle o r h) (m .queue) (f .queue)) (settled-same (m .queue) (f .queue) o r)
+  keeps : (k : Call) → Valid (left m (step k m))
+  keeps (messages.Unregister e) = unregister-valid e
+  keeps (messages.Register e x r h) = register-valid e x r h
+  keeps (messages.Update e r h) = kept (queue.update e r (m .queue)) (queues.step-valid (Update e r h) (m .queue) (f .queue)) (update-same (m .queue) (f .queue) e r)
+  keeps (messages.PickFrame mask mtu h) = kept (queue.pick mask mtu (m .queue)) (queues.step-valid (PickFrame mask mtu h) (m .queue) (f .queue)) (pick-same (m .queue) (f .queue) mask mtu)
+  keeps (messages.Settle o r h) = kept (queue.settle o r (m .queue)) (queues.step-valid (Settle o r h) (m .queue) (f .queue)) (settled-same (m .queue) (f .queue) o r)
 
-pub step-fair : (k : Call) (m : Registry) → Fair m → Fair (left m (step k m))
-step-fair k m f = keeps m f k
+pub step-valid : (k : Call) (m : Registry) → Valid m → Valid (left m (step k m))
+step-valid k m f = keeps m f k

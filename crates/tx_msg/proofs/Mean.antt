@@ -1,4 +1,4 @@
--- Whatever is fair is laid out as whole bytes, which mean it; so the theorem of specs/Means.antt.
+-- Whatever is valid is laid out as whole bytes, which mean it; so the theorem of specs/Means.antt.
 use Prim.Native.Nat.{ℕ}
 use mathlib.Core.Path.{_≡_, refl, sym, ap, _∙_, subst}
 use mathlib.Core.List.{List}
@@ -21,23 +21,23 @@ use Rattle.tx_queue.specs.Steps.{isRegistered}
 use Rattle.tx_queue.specs.declared.Answer.{Answer}
 use Rattle.tx_queue.specs.declared.Answer.the-variants.{Refused, Done}
 use Rattle.tx_queue.proofs.Reading.{conditions}
-use Rattle.tx_fair.proofs.Reading as queues
-use Rattle.tx_fair.proofs.Mean as queueMean
+use Rattle.tx_valid.proofs.Reading as queues
+use Rattle.tx_valid.proofs.Mean as queueMean
 use Rattle.tx_msg.specs.Registry as registry
 use Rattle.tx_msg.specs.Registry.{Registry, fresh}
 use Rattle.tx_msg.specs.Bytes.{treePart, queuePart, wholeB, read, laid}
 use Rattle.tx_msg.specs.Steps.{step}
 use Rattle.tx_msg.specs.Calls.{opening}
-use Rattle.tx_msg.specs.Means.{Fair, Sized, MessagesMeans}
+use Rattle.tx_msg.specs.Means.{Valid, Sized, MessagesMeans}
 use Rattle.tx_msg.proofs.Parts.{Joined, tree-is, queue-is, long, split, laid-joined, laid-from}
 use Rattle.tx_msg.proofs.Facts.{Facts, facts-of, of-facts, at-most, whole-of, of-whole}
-use Rattle.tx_msg.proofs.Keeping.{step-fair}
+use Rattle.tx_msg.proofs.Keeping.{step-valid}
 
--- ---- whole bytes mean something fair, and are the bytes of what they mean
+-- ---- whole bytes mean something valid, and are the bytes of what they mean
 
 module _ (b : List ℕ) (y : Bytes b) (h : wholeB b ≡ true) where
-  pub read-fair : Fair (read b)
-  read-fair = let w = whole-of b h in record { whole = w .means; queue = queues.read-fair (queuePart b) (bytes-part 385 677 b y) (w .queue) }
+  pub read-valid : Valid (read b)
+  read-valid = let w = whole-of b h in record { whole = w .means; queue = queues.read-valid (queuePart b) (bytes-part 385 677 b y) (w .queue) }
 
   pub tree-self : treePart b ≡ tree.laid (read b .subjects) (treePart b)
   tree-self = let w = whole-of b h in sym (trees.laid-read (treePart b) (split b (w .long) .long-t) (w .size) (bytes-part 0 385 b y))
@@ -47,7 +47,7 @@ module _ (b : List ℕ) (y : Bytes b) (h : wholeB b ≡ true) where
 
 -- ---- what is laid reads back
 
-module _ (m : Registry) (b : List ℕ) (y : Bytes b) (f : Fair m) (l : length b ≡ messagesLength) where
+module _ (m : Registry) (b : List ℕ) (y : Bytes b) (f : Valid m) (l : length b ≡ messagesLength) where
   w : Facts m
   w = facts-of m (f .whole)
 
@@ -91,10 +91,10 @@ module _ (m : Registry) (b : List ℕ) (y : Bytes b) (f : Fair m) (l : length b 
 
 -- ---- opening
 
-fresh-fair : Fair fresh
-fresh-fair = record {
-  whole = of-facts fresh (record { queue = queueMean.fresh-fair .whole; range = refl; once = λ e. omega arith; rises = refl; named = λ e l. ap isRegistered (getD-replicate {A = Option Sets} 128 e none none l) });
-  queue = queueMean.fresh-fair;
+fresh-valid : Valid fresh
+fresh-valid = record {
+  whole = of-facts fresh (record { queue = queueMean.fresh-valid .whole; range = refl; once = λ e. omega arith; rises = refl; named = λ e l. ap isRegistered (getD-replicate {A = Option Sets} 128 e none none l) });
+  queue = queueMean.fresh-valid;
 }
 
 opened : (b : ℕ) (a : Answer) (m : Registry) → opening b ≡ done a m → wholeB (laid m (replicate b 0)) ≡ true
@@ -102,7 +102,7 @@ unfolding opening
 opened b a m h =
     let i = opened-is (eqb b messagesLength) Done (Refused 1) fresh a m h in
     subst (λ (x : Registry). wholeB (laid x (replicate b 0)) ≡ true) (i .1)
-    (laid-whole fresh (replicate b 0) (zero-bytes b) fresh-fair (length-replicate {A = ℕ} b 0 ∙ eqb-true b messagesLength (i .0)))
+    (laid-whole fresh (replicate b 0) (zero-bytes b) fresh-valid (length-replicate {A = ℕ} b 0 ∙ eqb-true b messagesLength (i .0)))
 
 -- ---- the theorem
 
@@ -110,5 +110,5 @@ pub means : MessagesMeans
 means =
     record {
       opened = opened;
-      meaning = means-of wholeB read laid (Refused 1) Fair Sized laid-bytes laid-whole read-laid step read-fair (λ b h. whole-of b h .long) laid-read step-fair (λ k m n f z. z);
+      meaning = means-of wholeB read laid (Refused 1) Valid Sized laid-bytes laid-whole read-laid step read-valid (λ b h. whole-of b h .long) laid-read step-valid (λ k m n f z. z);
     }

@@ -7,7 +7,7 @@ use Rattle.state.specs.Lengths.{messagesLength}
 use Rattle.state.specs.Result.{done, Means}
 use Rattle.tx_queue.specs.declared.Answer.{Answer}
 use Rattle.tx_queue.specs.declared.Answer.the-variants.{Refused}
-use Rattle.tx_fair.specs.Means as queue
+use Rattle.tx_valid.specs.Means as queue
 use Rattle.tx_msg.specs.Registry as registry
 use Rattle.tx_msg.specs.Registry.{Registry}
 use Rattle.tx_msg.specs.Bytes.{wholeB, read, laid}
@@ -15,9 +15,9 @@ use Rattle.tx_msg.specs.Steps.{step}
 use Rattle.tx_msg.specs.Calls.{opening}
 
 -- *whole*, and what the queue's bytes hold by themselves
-pub record Fair (m : Registry) : Type 0 where
+pub record Valid (m : Registry) : Type 0 where
   pub whole : registry.wholeB m ≡ true
-  pub queue : queue.Fair (m .queue)
+  pub queue : queue.Valid (m .queue)
 
 abbrev pub Sized : Registry → ℕ → Type 0
 Sized m n = n ≡ messagesLength
@@ -25,4 +25,4 @@ Sized m n = n ≡ messagesLength
 pub record MessagesMeans : Type 0 where
   -- opened bytes are whole
   pub opened : (b : ℕ) (a : Answer) (m : Registry) → opening b ≡ done a m → wholeB (laid m (replicate b 0)) ≡ true
-  pub meaning : Means wholeB read laid (Refused 1) Fair Sized step
+  pub meaning : Means wholeB read laid (Refused 1) Valid Sized step

@@ -24,7 +24,7 @@ ghost use Rattle.tx_msg.specs.Calls.{on, bytes, opening, openedBytes};
 ghost use Rattle.tx_msg.specs.Means.{MessagesMeans};
 ghost use Rattle.tx_msg.specs.Inner.{sameB};
 
-// What is proved of the bytes and calls of message transmission.
+// Does nothing: its contract is the theorem of specs/Means.antt.
 pub fn meaning()
     ensures { λ _. ⌜ MessagesMeans ⌝ }
 {}

@@ -14,17 +14,17 @@ use Rattle.multi_cycle_list.specs.Lists as lists
 use Rattle.multi_cycle_list.specs.Nodes as nodes
 use Rattle.multi_cycle_list.specs.Inner.{Marked}
 use Rattle.multi_cycle_list.proofs.Arcs.{row-count}
-use Rattle.multi_cycle_list.proofs.Laid.{read-fair}
+use Rattle.multi_cycle_list.proofs.Laid.{read-valid}
 use Rattle.tx_queue.specs.TxQueue as plain
-use Rattle.tx_queue.specs.TxQueue.{Sets, place, seatB, pickB}
+use Rattle.tx_queue.specs.TxQueue.{Sets, place, placedB, pickB}
 use Rattle.tx_queue.specs.Bytes.{queuePart, read, sizesB, wholeB}
 use Rattle.tx_queue.specs.Inner.{namedB}
 use Rattle.tx_queue.proofs.Reading.{Sizes, sizes-of, sets-at, queue-at, entries-long, queues-long, whole-of}
-use Rattle.tx_queue.proofs.Testing.{Marks, marks-are-seats}
+use Rattle.tx_queue.proofs.Testing.{Marks, marks-are-placed}
 
 -- an entry stands at most once in a queue
 pub at-most-once : (s : List ℕ) → nodes.wholeB (queuePart s) ≡ true → (e k : ℕ) → lists.count e (getD ((read s) .queues) k []) ≤ 1
-at-most-once s q e k = omega (arith, row-count e ((read s) .queues) k, read-fair (queuePart s) q .once e)
+at-most-once s q e k = omega (arith, row-count e ((read s) .queues) k, read-valid (queuePart s) q .once e)
 
 -- the queue is whole, and what its test marked
 pub record Ground (s seen : List ℕ) : Type 0 where
@@ -54,17 +54,17 @@ module _ (s seen : List ℕ) (g : Ground s seen) where
     once = at-most-once s (g .queue);
   }
 
-  seats : allB 128 (namedB s seen) ≡ allB 128 (seatB (read s))
-  seats = marks-are-seats (read s) seen marks (namedB s seen)
+  placed : allB 128 (namedB s seen) ≡ allB 128 (placedB (read s))
+  placed = marks-are-placed (read s) seen marks (namedB s seen)
       (λ e l. ap (λ (o : Option Sets). eqb (getD seen (16 + e) 0) ((place o + 1) % 17)) (sym (sets-at s e l)))
 
   means : wholeB s ≡ (allB 128 (namedB s seen) && pickB (read s) ((read s) .pick))
   unfolding plain.wholeB
   means = whole-of s (g .long) (g .sizes) (g .queue)
-      ∙ rw (eq-eqb (length ((read s) .entries)) 128 (entries-long s), eq-eqb (length ((read s) .queues)) 16 (queues-long s (g .sizes)), ← seats) refl
+      ∙ rw (eq-eqb (length ((read s) .entries)) 128 (entries-long s), eq-eqb (length ((read s) .queues)) 16 (queues-long s (g .sizes)), ← placed) refl
 
-  pub no-seats : allB 128 (namedB s seen) ≡ false → wholeB s ≡ false
-  no-seats h = means ∙ rw h
+  pub no-placed : allB 128 (namedB s seen) ≡ false → wholeB s ≡ false
+  no-placed h = means ∙ rw h
 
   pub whole-last : allB 128 (namedB s seen) ≡ true → wholeB s ≡ pickB (read s) ((read s) .pick)
   whole-last h = means ∙ rw h

@@ -23,7 +23,7 @@ use Rattle.emcyphal_core.specs.declared.MaybePriority.{MaybePriority}
 use Rattle.emcyphal_core.specs.declared.MaybePriority.the-variants.{Some, None}
 use Rattle.emcyphal_core.proofs.Laws.{numbered}
 use Rattle.tx_queue.specs.TxQueue as plain
-use Rattle.tx_queue.specs.TxQueue.{Sets, TxQueue, queueOf, place, setsOf, seatB, pickB}
+use Rattle.tx_queue.specs.TxQueue.{Sets, TxQueue, queueOf, place, setsOf, placedB, pickB}
 use Rattle.tx_queue.specs.Bytes.{queuePart, setsAt, read, sizesB, wholeB}
 
 -- ---- an entry's queue
@@ -105,26 +105,26 @@ times-other p k q = rw (ne-eqb p k q)
 pub record Conditions (m : TxQueue) : Type 0 where
   pub entries : length (m .entries) ≡ 128
   pub queues : length (m .queues) ≡ 16
-  pub seats : (e k : ℕ) → e < 128 → k < 16 → count e (getD (m .queues) k []) ≡ times (place (setsOf m e)) k
+  pub placed : (e k : ℕ) → e < 128 → k < 16 → count e (getD (m .queues) k []) ≡ times (place (setsOf m e)) k
   pub pick : pickB m (m .pick) ≡ true
 
--- an entry's seat, and what its count is in each queue
-pub seat-at : (m : TxQueue) (e : ℕ) → seatB m e ≡ true → (k : ℕ) → k < 16 → count e (getD (m .queues) k []) ≡ times (place (setsOf m e)) k
-seat-at m e h k l = eqb-true (count e (getD (m .queues) k [])) (times (place (setsOf m e)) k)
+-- an entry's place, and what its count is in each queue
+pub placed-at : (m : TxQueue) (e : ℕ) → placedB m e ≡ true → (k : ℕ) → k < 16 → count e (getD (m .queues) k []) ≡ times (place (setsOf m e)) k
+placed-at m e h k l = eqb-true (count e (getD (m .queues) k [])) (times (place (setsOf m e)) k)
     (all-at 16 (λ k. eqb (count e (getD (m .queues) k [])) (times (place (setsOf m e)) k)) h k l)
 
-pub of-seat : (m : TxQueue) (e : ℕ) → ((k : ℕ) → k < 16 → count e (getD (m .queues) k []) ≡ times (place (setsOf m e)) k) → seatB m e ≡ true
-of-seat m e f = all-true 16 (λ k. eqb (count e (getD (m .queues) k [])) (times (place (setsOf m e)) k))
+pub of-placed : (m : TxQueue) (e : ℕ) → ((k : ℕ) → k < 16 → count e (getD (m .queues) k []) ≡ times (place (setsOf m e)) k) → placedB m e ≡ true
+of-placed m e f = all-true 16 (λ k. eqb (count e (getD (m .queues) k [])) (times (place (setsOf m e)) k))
     (λ k l. eq-eqb (count e (getD (m .queues) k [])) (times (place (setsOf m e)) k) (f k l))
 
 pub conditions : (m : TxQueue) → plain.wholeB m ≡ true → Conditions m
 unfolding plain.wholeB
 conditions m h =
-    let r = and4 (eqb (length (m .entries)) 128) (eqb (length (m .queues)) 16) (allB 128 (seatB m)) (pickB m (m .pick)) h in
+    let r = and4 (eqb (length (m .entries)) 128) (eqb (length (m .queues)) 16) (allB 128 (placedB m)) (pickB m (m .pick)) h in
     record {
       entries = eqb-true (length (m .entries)) 128 (r .0);
       queues = eqb-true (length (m .queues)) 16 (r .1);
-      seats = λ e k l i. seat-at m e (all-at 128 (seatB m) (r .2) e l) k i;
+      placed = λ e k l i. placed-at m e (all-at 128 (placedB m) (r .2) e l) k i;
       pick = r .3;
     }
 
@@ -133,6 +133,6 @@ unfolding plain.wholeB
 of-conditions m c = rw (
   eq-eqb (length (m .entries)) 128 (c .entries),
   eq-eqb (length (m .queues)) 16 (c .queues),
-  all-true 128 (seatB m) (λ e l. of-seat m e (λ k i. c .seats e k l i)),
+  all-true 128 (placedB m) (λ e l. of-placed m e (λ k i. c .placed e k l i)),
   c .pick,
 )

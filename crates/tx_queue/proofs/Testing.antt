@@ -1,4 +1,4 @@
--- The marks that the list queue's test leaves come to the entries' seats.
+-- The marks that the list queue's test leaves come to the entries' placed.
 use Prim.Native.Nat.{ℕ, suc, _+_, _-_, _%_, _<_, _≤_}
 use mathlib.Core.Path.{_≡_, refl, sym, _∙_}
 use mathlib.Core.List.{List, []}
@@ -12,8 +12,8 @@ use Rattle.state.specs.Seq.{allB}
 use Rattle.state.proofs.Tests.{same-test}
 use Rattle.state.proofs.Seq.{all-true, all-at}
 use Rattle.multi_cycle_list.specs.Lists.{count}
-use Rattle.tx_queue.specs.TxQueue.{TxQueue, place, setsOf, seatB}
-use Rattle.tx_queue.proofs.Reading.{place-most, times, times-own, times-other, seat-at, of-seat}
+use Rattle.tx_queue.specs.TxQueue.{TxQueue, place, setsOf, placedB}
+use Rattle.tx_queue.proofs.Reading.{place-most, times, times-own, times-other, placed-at, of-placed}
 
 -- each entry's mark names its queue
 pub record Marks (queues : List (List ℕ)) (seen : List ℕ) : Type 0 where
@@ -32,8 +32,8 @@ module _ (m : TxQueue) (seen : List ℕ) (marks : Marks (m .queues) seen) where
     most : at ≤ 16
     most = place-most (setsOf m e)
 
-    in-seat : mark ≡ (at + 1) % 17 → (k : ℕ) → k < 16 → count e (getD (m .queues) k []) ≡ times at k
-    in-seat h k i = elim (ℕ-discrete at k) [
+    in-placed : mark ≡ (at + 1) % 17 → (k : ℕ) → k < 16 → count e (getD (m .queues) k []) ≡ times at k
+    in-placed h k i = elim (ℕ-discrete at k) [
       | yes q ↦ omega (arith, times-own at k q, marks .once e k, marks .of-queue e k l (h ∙ omega arith) .1)
       | no q ↦ elim (ℕ-discrete (count e (getD (m .queues) k [])) 0) [
         | yes z ↦ z ∙ sym (times-other at k q)
@@ -41,8 +41,8 @@ module _ (m : TxQueue) (seen : List ℕ) (marks : Marks (m .queues) seen) where
       ]
     ]
 
-    of-seats : ((k : ℕ) → k < 16 → count e (getD (m .queues) k []) ≡ times at k) → mark ≡ (at + 1) % 17
-    of-seats f = elim (ℕ-discrete at 16) [
+    of-counts : ((k : ℕ) → k < 16 → count e (getD (m .queues) k []) ≡ times at k) → mark ≡ (at + 1) % 17
+    of-counts f = elim (ℕ-discrete at 16) [
       | no q ↦
           let i : at < 16 = omega (arith, most) in
           marks .in-queue e at l i (omega (arith, f at i, times-own at at refl)) ∙ omega arith
@@ -59,13 +59,13 @@ module _ (m : TxQueue) (seen : List ℕ) (marks : Marks (m .queues) seen) where
     abbrev markB : Bool
     markB = eqb mark ((at + 1) % 17)
 
-    is-seat : markB ≡ seatB m e
-    is-seat = same-test markB (seatB m e)
-        (λ h. of-seat m e (in-seat (eqb-true mark ((at + 1) % 17) h)))
-        (λ h. eq-eqb mark ((at + 1) % 17) (of-seats (seat-at m e h)))
+    is-placed : markB ≡ placedB m e
+    is-placed = same-test markB (placedB m e)
+        (λ h. of-placed m e (in-placed (eqb-true mark ((at + 1) % 17) h)))
+        (λ h. eq-eqb mark ((at + 1) % 17) (of-counts (placed-at m e h)))
 
-  -- a test of every mark is the test of every seat
-  pub marks-are-seats : (f : ℕ → Bool) → ((e : ℕ) (l : e < 128) → f e ≡ markB e l) → allB 128 f ≡ allB 128 (seatB m)
-  marks-are-seats f h = same-test (allB 128 f) (allB 128 (seatB m))
-      (λ t. all-true 128 (seatB m) (λ e l. sym (h e l ∙ is-seat e l) ∙ all-at 128 f t e l))
-      (λ t. all-true 128 f (λ e l. h e l ∙ is-seat e l ∙ all-at 128 (seatB m) t e l))
+  -- a test of every mark is the test of every place
+  pub marks-are-placed : (f : ℕ → Bool) → ((e : ℕ) (l : e < 128) → f e ≡ markB e l) → allB 128 f ≡ allB 128 (placedB m)
+  marks-are-placed f h = same-test (allB 128 f) (allB 128 (placedB m))
+      (λ t. all-true 128 (placedB m) (λ e l. sym (h e l ∙ is-placed e l) ∙ all-at 128 f t e l))
+      (λ t. all-true 128 f (λ e l. h e l ∙ is-placed e l ∙ all-at 128 (placedB m) t e l))

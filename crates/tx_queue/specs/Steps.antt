@@ -23,15 +23,15 @@ isOpen (some p) = true
 -- ---- an entry's place
 
 -- the entry e, which stands in the queue `from`, belongs in the queue `to`: it goes to the back only if that is another
-abbrev pub seated : ℕ → ℕ → ℕ → List (List ℕ) → List (List ℕ)
-seated from to e qs = cond (ltb to 16) (cond (eqb from to) qs (pushedBack to e (removed e qs))) (removed e qs)
+abbrev pub requeued : ℕ → ℕ → ℕ → List (List ℕ) → List (List ℕ)
+requeued from to e qs = cond (ltb to 16) (cond (eqb from to) qs (pushedBack to e (removed e qs))) (removed e qs)
 
 abbrev pub wakes : ℕ → ℕ → ℕ → Bool
 wakes from to mask = ltb to 16 && (not (eqb from to) && has mask (to / 2))
 
 -- the entry e, which stands in the queue `from`, gets the sets o; any pick is over
 abbrev pub becomes : ℕ → ℕ → Option Sets → TxQueue → TxQueue
-becomes e from o m = record { entries = set (m .entries) e o; queues = seated from (place o) e (m .queues); mask = m .mask; pick = none }
+becomes e from o m = record { entries = set (m .entries) e o; queues = requeued from (place o) e (m .queues); mask = m .mask; pick = none }
 
 abbrev pub withMask : ℕ → TxQueue → TxQueue
 withMask mask m = record { entries = m .entries; queues = m .queues; mask = mask; pick = m .pick }
@@ -48,9 +48,13 @@ startedOf (some s) = s .started
 
 -- ---- registering, removing, new readiness
 
+-- the entry e, which has the started set t and stands in the queue `from`, gets the readiness r
+abbrev pub updated : ℕ → ℕ → ℕ → ℕ → TxQueue → Result Answer TxQueue
+updated e from r t m = done (Accepted (wakes from (place (sets r t)) (m .mask))) (becomes e from (sets r t) m)
+
 -- an empty started set, and the readiness given: placed as by an update
 abbrev pub registers : ℕ → ℕ → TxQueue → Result Answer TxQueue
-registers e r m = done (Accepted (wakes 16 (place (sets r 0)) (m .mask))) (becomes e 16 (sets r 0) m)
+registers e r m = updated e 16 r 0 m
 
 unfoldable pub register : ℕ → ℕ → TxQueue → Result Answer TxQueue
 register e r m =
@@ -65,10 +69,6 @@ unregister e m =
     cond (isOpen (m .pick)) (refuse (Refused 10)) (
     cond (isRegistered (setsOf m e)) (done (Accepted false) (becomes e (place (setsOf m e)) none m)) (
     refuse (Refused 8))))
-
--- the entry e, which has the started set t and stands in the queue `from`
-abbrev pub updated : ℕ → ℕ → ℕ → ℕ → TxQueue → Result Answer TxQueue
-updated e from r t m = done (Accepted (wakes from (place (sets r t)) (m .mask))) (becomes e from (sets r t) m)
 
 unfoldable pub update : ℕ → ℕ → TxQueue → Result Answer TxQueue
 update e r m =

@@ -66,8 +66,8 @@ firstQueue mask m = firstFrom mask 0 (m .queues)
 -- ---- document 01's *whole*
 
 -- the entry e stands once in the queue that its sets give, and in no other
-abbrev pub seatB : TxQueue → ℕ → Bool
-seatB m e = allB 16 (λ k. eqb (count e (getD (m .queues) k [])) (cond (eqb (place (setsOf m e)) k) 1 0))
+abbrev pub placedB : TxQueue → ℕ → Bool
+placedB m e = allB 16 (λ k. eqb (count e (getD (m .queues) k [])) (cond (eqb (place (setsOf m e)) k) 1 0))
 
 abbrev pub mtuB : ℕ → Bool
 mtuB mtu = eqb mtu 8 || eqb mtu 64
@@ -78,4 +78,4 @@ pickB m none = true
 pickB m (some p) = mtuB (p .mtu) && ltb (firstQueue (p .mask) m) 16
 
 unfoldable pub wholeB : TxQueue → Bool
-wholeB m = eqb (length (m .entries)) 128 && (eqb (length (m .queues)) 16 && (allB 128 (seatB m) && pickB m (m .pick)))
+wholeB m = eqb (length (m .entries)) 128 && (eqb (length (m .queues)) 16 && (allB 128 (placedB m) && pickB m (m .pick)))

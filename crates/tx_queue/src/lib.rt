@@ -1,5 +1,5 @@
-// `TxQueue` over lent bytes: the answers, an entry's queue, the queue that a pick takes, and whether bytes are whole. Inner: these cross
-// crates and may require.
+// `TxQueue` over lent bytes: the answers, an entry's queue, the queue that a pick takes, and whether bytes are whole. Inner
+// functions: other crates call them, and they may have preconditions.
 use emcyphal_core::MaybePriority;
 use emcyphal_core::Priority;
 use emcyphal_core::PrioritySet;

@@ -53,6 +53,11 @@ pub mod probe {
             }
         }
 
+        /// Opens it anew, with no entry registered.
+        pub fn open(&mut self, slots: usize) {
+            self.registry = Registry::new(slots);
+        }
+
         fn hand(&mut self, entry: u8, subject: u16) -> NonNull<Entry> {
             let subject = SubjectId::new(subject).expect("a subject");
             self.places.hand(entry, |buffer| {

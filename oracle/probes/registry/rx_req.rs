@@ -26,6 +26,11 @@ pub mod probe {
             made
         }
 
+        /// Opens it anew, with no entry registered.
+        pub fn open(&mut self) {
+            self.registry = Registry::default();
+        }
+
         /// Panics where `loop_back` is set.
         pub fn register(
             &mut self,

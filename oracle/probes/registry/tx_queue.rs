@@ -220,6 +220,11 @@ pub mod probe {
             }
         }
 
+        /// Opens it anew, with no entry registered.
+        pub fn open(&mut self) {
+            self.registry = K::Registry::default();
+        }
+
         pub fn is_registered(&self, entry: u8) -> bool {
             self.places.is_registered(entry)
         }

@@ -1,5 +1,6 @@
--- Every row is computed, on bytes.
-use mathlib.Core.Path.{refl}
+-- Every row is computed, on bytes: one by itself, so that no declaration takes too many steps.
+use mathlib.Core.Path.{_≡_, refl, ap₂}
+use mathlib.Core.List.{List, _∷_}
 use Rattle.state.specs.Seq.{allB, someB, each}
 use Rattle.multi_cycle_list.specs.Lists.{count, without}
 use Rattle.multi_cycle_list.specs.Nodes.{trace, traceEnd, listOf, listsOf, linkedAt, sizesB as listSizes, wholeB as wholeList}
@@ -22,15 +23,81 @@ use Rattle.tx_queue.specs.TxQueue.{firstFrom, wholeB as wholeQueue}
 use Rattle.tx_queue.specs.Bytes.{sizesB as sizesQueue, wholeB as wholeResponses, laid as laidResponses}
 use Rattle.tx_queue.specs.Steps.{register as registerResponse, pick as pickResponse, settle as settleResponse}
 use Rattle.tx_queue.specs.Calls.{opening as openingResponses}
+use Rattle.tx_msg.specs.Registry.{wholeB as wholeMessage}
+use Rattle.tx_msg.specs.Bytes.{wholeB as wholeMessages, laid as laidMessages}
+use Rattle.tx_msg.specs.Steps.{register as registerMessage}
+use Rattle.tx_msg.specs.Calls.{opening as openingMessages}
 use Rattle.gomxeli.specs.Answers.{packed}
 use Rattle.gomxeli.specs.Calls.{run, left}
-use Rattle.cases.specs.Table.{table}
+use Rattle.cases.specs.Table.{Row, Seen, found, wanted, table, freshPoll, sharedSubject, threeSubjects, onlyOne, firstSubject, lastSubject, lostSlot, removedOnWalk, loopBackWalk, lastFrameOfMessage, lastFrameOfResponse, nextFrameOfMessage, nextFrameOfResponse, keyTwice}
 use Rattle.cases.proofs.cases.Statement.{statement}
 use Rattle.cases.proofs.cases.Tie as tie
 
+abbrev AsWanted : Row → Type 0
+AsWanted r = found r ≡ wanted r
+
+fresh-poll : AsWanted freshPoll
+unfolding allB someB each count without trace traceEnd listOf listsOf linkedAt listSizes wholeList path arcs after before twos laidOut readTree places laidTree wholeRegistry sizesRegular wholeRegular laidRegular register unregister steps pollPop hubPushStart hubPushNext openingRegular run left packed freshPoll
+fresh-poll = refl
+
+shared-subject : AsWanted sharedSubject
+unfolding allB someB each count without trace traceEnd listOf listsOf linkedAt listSizes wholeList path arcs after before twos laidOut readTree places laidTree wholeRegistry sizesRegular wholeRegular laidRegular register unregister steps pollPop hubPushStart hubPushNext openingRegular run left packed sharedSubject
+shared-subject = refl
+
+three-subjects : AsWanted threeSubjects
+unfolding allB someB each count without trace traceEnd listOf listsOf linkedAt listSizes wholeList path arcs after before twos laidOut readTree places laidTree wholeRegistry sizesRegular wholeRegular laidRegular register unregister steps pollPop hubPushStart hubPushNext openingRegular run left packed threeSubjects
+three-subjects = refl
+
+only-one : AsWanted onlyOne
+unfolding allB someB each count without trace traceEnd listOf listsOf linkedAt listSizes wholeList path arcs after before twos laidOut readTree places laidTree wholeRegistry sizesRegular wholeRegular laidRegular register unregister steps pollPop hubPushStart hubPushNext openingRegular run left packed onlyOne
+only-one = refl
+
+first-subject : AsWanted firstSubject
+unfolding allB someB each count without trace traceEnd listOf listsOf linkedAt listSizes wholeList path arcs after before twos laidOut readTree places laidTree wholeRegistry sizesRegular wholeRegular laidRegular register unregister steps pollPop hubPushStart hubPushNext openingRegular run left packed firstSubject
+first-subject = refl
+
+last-subject : AsWanted lastSubject
+unfolding allB someB each count without trace traceEnd listOf listsOf linkedAt listSizes wholeList path arcs after before twos laidOut readTree places laidTree wholeRegistry sizesRegular wholeRegular laidRegular register unregister steps pollPop hubPushStart hubPushNext openingRegular run left packed lastSubject
+last-subject = refl
+
+lost-slot : AsWanted lostSlot
+unfolding allB someB each count without trace traceEnd listOf listsOf linkedAt listSizes wholeList path arcs after before twos laidOut readTree places laidTree wholeRegistry sizesRegular wholeRegular laidRegular register unregister steps pollPop hubPushStart hubPushNext openingRegular run left packed lostSlot
+lost-slot = refl
+
+removed-on-walk : AsWanted removedOnWalk
+unfolding allB someB each count without trace traceEnd listOf listsOf linkedAt listSizes wholeList path arcs after before twos laidOut readTree places laidTree wholeRegistry sizesRegular wholeRegular laidRegular register unregister steps pollPop hubPushStart hubPushNext openingRegular run left packed removedOnWalk
+removed-on-walk = refl
+
+loop-back-walk : AsWanted loopBackWalk
+unfolding allB readTree places laidTree each wholeLoop wholeLoopBack laidLoopBack registerLoopBack startLoopBack nextLoopBack openingLoopBack run left packed loopBackWalk
+loop-back-walk = refl
+
+last-frame-of-message : AsWanted lastFrameOfMessage
+unfolding allB someB each count without trace traceEnd listOf listsOf linkedAt listSizes wholeList path arcs after before twos laidOut readTree places laidTree bits firstIn firstFrom wholeQueue sizesQueue wholeResponses laidResponses pickResponse settleResponse wholeMessage wholeMessages laidMessages registerMessage openingMessages run left packed lastFrameOfMessage
+last-frame-of-message = refl
+
+last-frame-of-response : AsWanted lastFrameOfResponse
+unfolding allB someB each count without trace traceEnd listOf listsOf linkedAt listSizes wholeList path arcs after before twos laidOut bits firstIn firstFrom wholeQueue sizesQueue wholeResponses laidResponses registerResponse pickResponse settleResponse openingResponses run left packed lastFrameOfResponse
+last-frame-of-response = refl
+
+next-frame-of-message : AsWanted nextFrameOfMessage
+unfolding allB someB each count without trace traceEnd listOf listsOf linkedAt listSizes wholeList path arcs after before twos laidOut readTree places laidTree bits firstIn firstFrom wholeQueue sizesQueue wholeResponses laidResponses pickResponse settleResponse wholeMessage wholeMessages laidMessages registerMessage openingMessages run left packed nextFrameOfMessage
+next-frame-of-message = refl
+
+next-frame-of-response : AsWanted nextFrameOfResponse
+unfolding allB someB each count without trace traceEnd listOf listsOf linkedAt listSizes wholeList path arcs after before twos laidOut bits firstIn firstFrom wholeQueue sizesQueue wholeResponses laidResponses registerResponse pickResponse settleResponse openingResponses run left packed nextFrameOfResponse
+next-frame-of-response = refl
+
+key-twice : AsWanted keyTwice
+unfolding allB someB each count without trace traceEnd listOf listsOf linkedAt listSizes wholeList path arcs after before twos laidOut find sizesB listsB wholeB words longs laid get insert remove opening run left packed keyTwice
+key-twice = refl
+
+next : {x y : Seen} {xs ys : List Seen} → x ≡ y → xs ≡ ys → x ∷ xs ≡ y ∷ ys
+next p q = ap₂ (λ (x : Seen) (xs : List Seen). x ∷ xs) p q
+
 returns : tie.Need-returns
-unfolding allB someB each count without trace traceEnd listOf listsOf linkedAt listSizes wholeList path arcs after before twos laidOut find sizesB listsB wholeB words longs laid get insert remove opening readTree places laidTree wholeRegistry sizesRegular wholeRegular laidRegular register unregister steps pollPop hubPushStart hubPushNext openingRegular wholeLoop wholeLoopBack laidLoopBack registerLoopBack startLoopBack nextLoopBack openingLoopBack bits firstIn firstFrom wholeQueue sizesQueue wholeResponses laidResponses registerResponse pickResponse settleResponse openingResponses packed run left table
-returns c = record { all = refl }
+unfolding table
+returns c = record { all = next fresh-poll (next shared-subject (next three-subjects (next only-one (next first-subject (next last-subject (next lost-slot (next removed-on-walk (next loop-back-walk (next last-frame-of-message (next last-frame-of-response (next next-frame-of-message (next next-frame-of-response (next key-twice (refl)))))))))))))) }
 
 pub cases-spec : {M : Type 1} → statement M
 cases-spec = tie.close (tie.spec returns)

@@ -39,13 +39,13 @@ word-requires : tie.Need-word-requires
 word-requires c κs = search needs
 
 returns-2 : tie.Need-returns-2
-returns-2 c = let a = c .before .before .before .before .before .args in let p = c .before .before .before .before .before .pre in sym (key-same (a .s .now) (a .n) (a .k) (a .j) _ (p .1) (p .0) refl (c .before .word .result) (c .before .before .if1 .left) (c .before .word .ensures) (c .if2 .taken))
+returns-2 c = let a = c .before .before .before .before .before .args in let p = c .before .before .before .before .before .pre in sym (key-same (a .s .now) (a .n) (a .k) (a .j) _ (p .1) (p .0) refl (c .before .word .result) (c .before .before .if1 .left) (c .before .word .ensures .0) (c .if2 .taken))
 
 add-result : tie.Need-add-result
 add-result c = search needs
 
 returns-3 : tie.Need-returns-3
-returns-3 c = let a = c .before .before .before .before .before .args in let p = c .before .before .before .before .before .pre in sym (key-spent (a .s .now) (a .n) (a .k) (a .j) _ (p .1) (p .0) refl (c .before .word .result) (c .before .before .if1 .left) (c .before .word .ensures) (c .if2 .left))
+returns-3 c = let a = c .before .before .before .before .before .args in let p = c .before .before .before .before .before .pre in sym (key-spent (a .s .now) (a .n) (a .k) (a .j) _ (p .1) (p .0) refl (c .before .word .result) (c .before .before .if1 .left) (c .before .word .ensures .0) (c .if2 .left))
 
 pub key-ok-spec : {M : Type 1} → statement M
 key-ok-spec =

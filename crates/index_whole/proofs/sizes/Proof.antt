@@ -17,7 +17,7 @@ word-requires : tie.Need-word-requires
 word-requires c κs = search needs
 
 returns-2 : tie.Need-returns-2
-returns-2 c = sym (too-far _ (omega (arith, c .before .word .ensures)))
+returns-2 c = sym (too-far _ (omega (arith, c .before .word .ensures .0)))
 
 shared-slice-read-n : tie.Need-shared-slice-read-n
 shared-slice-read-n c = search needs
@@ -44,7 +44,7 @@ add-result-3 : tie.Need-add-result-3
 add-result-3 c = search needs
 
 returns-4 : tie.Need-returns-4
-returns-4 c = let s = c .before .before .before .before .before .before .args .s .now in ap (λ (k : ℕ). eqb (length s) (11 + 8 * entries s + 4 * ((k + 1) / 4))) (c .before .before .before .word .ensures) ∙ sym (sizes-last s (omega (arith, c .before .before .before .word .ensures)) (c .if3 .left))
+returns-4 c = let s = c .before .before .before .before .before .before .args .s .now in ap (λ (k : ℕ). eqb (length s) (11 + 8 * entries s + 4 * ((k + 1) / 4))) (c .before .before .before .word .ensures .0) ∙ sym (sizes-last s (omega (arith, c .before .before .before .word .ensures .0)) (c .if3 .left))
 
 pub sizes-spec : {M : Type 1} → statement M
 sizes-spec =

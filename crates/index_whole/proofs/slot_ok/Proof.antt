@@ -27,10 +27,10 @@ shared-slice-read-mark : tie.Need-shared-slice-read-mark
 shared-slice-read-mark c = search needs
 
 returns : tie.Need-returns
-returns c = let a = c .before .before .before .before .before .args in let p = c .before .before .before .before .before .pre in slot-free (a .s .now) (a .seen .now) (a .n) (a .k) (a .i) (c .before .before .word .result) (p .1 .1 .1) (p .1 .1 .0) (p .0) (c .before .before .word .ensures) (c .if1 .taken)
+returns c = let a = c .before .before .before .before .before .args in let p = c .before .before .before .before .before .pre in slot-free (a .s .now) (a .seen .now) (a .n) (a .k) (a .i) (c .before .before .word .result) (p .1 .1 .1) (p .1 .1 .0) (p .0) (c .before .before .word .ensures .0) (c .if1 .taken)
 
 returns-2 : tie.Need-returns-2
-returns-2 c = let a = c .before .before .before .before .before .before .args in let p = c .before .before .before .before .before .before .pre in sym (slot-over (a .s .now) (a .seen .now) (a .n) (a .k) (a .i) (c .before .before .before .word .result) (p .1 .1 .1) (p .1 .1 .0) (p .0) (c .before .before .before .word .ensures) (c .before .if1 .left) (c .if2 .taken))
+returns-2 c = let a = c .before .before .before .before .before .before .args in let p = c .before .before .before .before .before .before .pre in sym (slot-over (a .s .now) (a .seen .now) (a .n) (a .k) (a .i) (c .before .before .before .word .result) (p .1 .1 .1) (p .1 .1 .0) (p .0) (c .before .before .before .word .ensures .0) (c .before .if1 .left) (c .if2 .taken))
 
 mul-if3 : tie.Need-mul-if3
 mul-if3 c = search needs
@@ -48,10 +48,10 @@ cast-if3 : tie.Need-cast-if3
 cast-if3 c = byte-fits (c .shared-slice-known4 .given _)
 
 returns-3 : tie.Need-returns-3
-returns-3 c = let a = c .before .before .before .before .before .before .before .before .args in let p = c .before .before .before .before .before .before .before .before .pre in sym (slot-other (a .s .now) (a .seen .now) (a .n) (a .k) (a .i) (c .before .before .before .before .before .word .result) (p .1 .1 .1) (p .1 .1 .0) (p .0) (c .before .before .before .before .before .word .ensures) (c .before .before .before .if1 .left) (c .if3 .taken))
+returns-3 c = let a = c .before .before .before .before .before .before .before .before .args in let p = c .before .before .before .before .before .before .before .before .pre in sym (slot-other (a .s .now) (a .seen .now) (a .n) (a .k) (a .i) (c .before .before .before .before .before .word .result) (p .1 .1 .1) (p .1 .1 .0) (p .0) (c .before .before .before .before .before .word .ensures .0) (c .before .before .before .if1 .left) (c .if3 .taken))
 
 returns-4 : tie.Need-returns-4
-returns-4 c = let a = c .before .before .before .before .before .before .before .before .args in let p = c .before .before .before .before .before .before .before .before .pre in sym (slot-last (a .s .now) (a .seen .now) (a .n) (a .k) (a .i) (c .before .before .before .before .before .word .result) (p .1 .1 .1) (p .1 .1 .0) (p .0) (c .before .before .before .before .before .word .ensures) (c .before .before .before .if1 .left) (c .before .before .if2 .left) (c .if3 .left))
+returns-4 c = let a = c .before .before .before .before .before .before .before .before .args in let p = c .before .before .before .before .before .before .before .before .pre in sym (slot-last (a .s .now) (a .seen .now) (a .n) (a .k) (a .i) (c .before .before .before .before .before .word .result) (p .1 .1 .1) (p .1 .1 .0) (p .0) (c .before .before .before .before .before .word .ensures .0) (c .before .before .before .if1 .left) (c .before .before .if2 .left) (c .if3 .left))
 
 pub slot-ok-spec : {M : Type 1} → statement M
 slot-ok-spec =

@@ -27,7 +27,7 @@ slice-aggregate-lists c = search needs
 
 lists-requires : tie.Need-lists-requires
 unfolding unmarked
-lists-requires c κs = (refl, sized (c .before .before .before .before .before .before .args .s .now) _ (sym (c .before .before .before .before .sizes .ensures) ∙ c .before .before .before .if1 .taken) (c .before .word .ensures))
+lists-requires c κs = (refl, sized (c .before .before .before .before .before .before .args .s .now) _ (sym (c .before .before .before .before .sizes .ensures) ∙ c .before .before .before .if1 .taken) (c .before .word .ensures .0))
 
 returns-2 : tie.Need-returns-2
 returns-2 c = sym (no-lists _ (sym (c .before .before .lists .ensures .test) ∙ c .if2 .left))
@@ -36,13 +36,13 @@ slice-aggregate-slots : tie.Need-slice-aggregate-slots
 slice-aggregate-slots c = search needs
 
 slots-requires : tie.Need-slots-requires
-slots-requires c κs = (c .before .before .before .lists .kept .1 .0, (c .before .before .before .lists .ensures .freed (c .before .if2 .taken), sized (c .before .before .before .before .before .before .before .before .before .before .args .s .now) _ (sym (c .before .before .before .before .before .before .before .before .sizes .ensures) ∙ c .before .before .before .before .before .before .before .if1 .taken) (c .before .before .before .before .before .word .ensures)))
+slots-requires c κs = (c .before .before .before .lists .kept .1 .0, (c .before .before .before .lists .ensures .freed (c .before .if2 .taken), sized (c .before .before .before .before .before .before .before .before .before .before .args .s .now) _ (sym (c .before .before .before .before .before .before .before .before .sizes .ensures) ∙ c .before .before .before .before .before .before .before .if1 .taken) (c .before .before .before .before .before .word .ensures .0)))
 
 returns-3 : tie.Need-returns-3
 returns-3 c = sym (no-slots _ (sym (c .before .slots .ensures) ∙ c .if3 .left))
 
 keys-requires : tie.Need-keys-requires
-keys-requires c κs = sized (c .before .before .before .before .before .before .before .before .before .before .before .before .args .s .now) _ (sym (c .before .before .before .before .before .before .before .before .before .before .sizes .ensures) ∙ c .before .before .before .before .before .before .before .before .before .if1 .taken) (c .before .before .before .before .before .before .before .word .ensures)
+keys-requires c κs = sized (c .before .before .before .before .before .before .before .before .before .before .before .before .args .s .now) _ (sym (c .before .before .before .before .before .before .before .before .before .before .sizes .ensures) ∙ c .before .before .before .before .before .before .before .before .before .if1 .taken) (c .before .before .before .before .before .before .before .word .ensures .0)
 
 returns-4 : tie.Need-returns-4
 returns-4 c = c .keys .ensures ∙ sym (whole-last (c .before .before .before .before .before .before .before .before .before .before .before .before .before .args .s .now) (sym (c .before .before .before .before .before .before .before .before .before .before .before .sizes .ensures) ∙ c .before .before .before .before .before .before .before .before .before .before .if1 .taken) (sym (c .before .before .before .before .before .before .lists .ensures .test) ∙ c .before .before .before .before .if2 .taken) (sym (c .before .before .slots .ensures) ∙ c .before .if3 .taken))

@@ -8,9 +8,9 @@ use Rattle.multi_cycle_list.specs.Inner.{unmarked}
 use Rattle.entry_tree.specs.Places as tree
 use Rattle.regular.specs.Bytes.{activePart, inactivePart, read}
 use Rattle.entry_tree.specs.Testing.{pairsB, seenAfter, pointedB}
-use Rattle.regular.specs.Inner.{settledB}
+use Rattle.regular.specs.Inner.{metB}
 use Rattle.regular.proofs.Parts.{split}
-use Rattle.regular.proofs.Grounds.{Ground, sizes-of, no-length, no-sizes, no-queue, no-active, no-inactive, no-settled, no-last, whole-last}
+use Rattle.regular.proofs.Grounds.{Ground, sizes-of, no-length, no-sizes, no-queue, no-active, no-inactive, no-all-met, no-last, whole-last}
 use Rattle.regular.proofs.whole.Statement.{statement}
 use Rattle.regular.proofs.whole.Tie as tie
 
@@ -78,14 +78,14 @@ pairs-ok-requires-2 c κs = ((split (c .before .before .before .before .before .
 returns-5 : tie.Need-returns-5
 returns-5 c = let s = c .before .before .before .before .before .before .before .before .before .before .before .before .before .before .before .before .before .before .before .args .s .now in sym (no-inactive s _ (record { long = c .before .before .before .before .before .before .before .before .before .before .before .before .before .before .before .before .before .if1 .left; sizes = sym (c .before .before .before .before .before .before .before .before .before .before .before .before .before .before .before .before .sizes .ensures) ∙ c .before .before .before .before .before .before .before .before .before .before .before .before .before .before .before .if2 .taken; queue = sym (c .before .before .before .before .before .before .before .before .before .before .before .before .whole-marked .ensures .test) ∙ c .before .before .before .before .before .before .before .before .before .before .if3 .taken; marked = c .before .before .before .before .before .before .before .before .before .before .before .before .whole-marked .ensures .marked (c .before .before .before .before .before .before .before .before .before .before .if3 .taken); room = c .before .before .before .before .before .before .before .before .before .before .before .before .whole-marked .kept .1 .0 }) (ap (λ (z : List ℕ). pairsB 8191 1 2 2 4 z 0 (tree.read (inactivePart s))) (sym (c .before .before .before .before .before .before .before .pairs-ok .ensures .marks (c .before .before .before .before .before .if4 .taken))) ∙ sym (c .before .before .pairs-ok2 .ensures .test) ∙ c .if5 .left))
 
-slice-aggregate-settled : tie.Need-slice-aggregate-settled
-slice-aggregate-settled c = search needs
+slice-aggregate-all-met : tie.Need-slice-aggregate-all-met
+slice-aggregate-all-met c = search needs
 
-settled-requires : tie.Need-settled-requires
-settled-requires c κs = c .before .before .before .pairs-ok2 .kept .1 .0 ∙ c .before .before .before .before .before .before .before .before .pairs-ok .kept .1 .0 ∙ c .before .before .before .before .before .before .before .before .before .before .before .before .before .whole-marked .kept .1 .0
+all-met-requires : tie.Need-all-met-requires
+all-met-requires c κs = c .before .before .before .pairs-ok2 .kept .1 .0 ∙ c .before .before .before .before .before .before .before .before .pairs-ok .kept .1 .0 ∙ c .before .before .before .before .before .before .before .before .before .before .before .before .before .whole-marked .kept .1 .0
 
 returns-6 : tie.Need-returns-6
-returns-6 c = let s = c .before .before .before .before .before .before .before .before .before .before .before .before .before .before .before .before .before .before .before .before .before .before .args .s .now in sym (no-settled s _ (record { long = c .before .before .before .before .before .before .before .before .before .before .before .before .before .before .before .before .before .before .before .before .if1 .left; sizes = sym (c .before .before .before .before .before .before .before .before .before .before .before .before .before .before .before .before .before .before .before .sizes .ensures) ∙ c .before .before .before .before .before .before .before .before .before .before .before .before .before .before .before .before .before .before .if2 .taken; queue = sym (c .before .before .before .before .before .before .before .before .before .before .before .before .before .before .before .whole-marked .ensures .test) ∙ c .before .before .before .before .before .before .before .before .before .before .before .before .before .if3 .taken; marked = c .before .before .before .before .before .before .before .before .before .before .before .before .before .before .before .whole-marked .ensures .marked (c .before .before .before .before .before .before .before .before .before .before .before .before .before .if3 .taken); room = c .before .before .before .before .before .before .before .before .before .before .before .before .before .before .before .whole-marked .kept .1 .0 }) (ap (λ (z : List ℕ). allB 128 (settledB z)) (sym (c .before .before .before .before .before .pairs-ok2 .ensures .marks (c .before .before .before .if5 .taken) ∙ ap (λ (z : List ℕ). seenAfter 4 z (tree.read (inactivePart s))) (c .before .before .before .before .before .before .before .before .before .before .pairs-ok .ensures .marks (c .before .before .before .before .before .before .before .before .if4 .taken)))) ∙ sym (c .before .settled .ensures) ∙ c .if6 .left))
+returns-6 c = let s = c .before .before .before .before .before .before .before .before .before .before .before .before .before .before .before .before .before .before .before .before .before .before .args .s .now in sym (no-all-met s _ (record { long = c .before .before .before .before .before .before .before .before .before .before .before .before .before .before .before .before .before .before .before .before .if1 .left; sizes = sym (c .before .before .before .before .before .before .before .before .before .before .before .before .before .before .before .before .before .before .before .sizes .ensures) ∙ c .before .before .before .before .before .before .before .before .before .before .before .before .before .before .before .before .before .before .if2 .taken; queue = sym (c .before .before .before .before .before .before .before .before .before .before .before .before .before .before .before .whole-marked .ensures .test) ∙ c .before .before .before .before .before .before .before .before .before .before .before .before .before .if3 .taken; marked = c .before .before .before .before .before .before .before .before .before .before .before .before .before .before .before .whole-marked .ensures .marked (c .before .before .before .before .before .before .before .before .before .before .before .before .before .if3 .taken); room = c .before .before .before .before .before .before .before .before .before .before .before .before .before .before .before .whole-marked .kept .1 .0 }) (ap (λ (z : List ℕ). allB 128 (metB z)) (sym (c .before .before .before .before .before .pairs-ok2 .ensures .marks (c .before .before .before .if5 .taken) ∙ ap (λ (z : List ℕ). seenAfter 4 z (tree.read (inactivePart s))) (c .before .before .before .before .before .before .before .before .before .before .pairs-ok .ensures .marks (c .before .before .before .before .before .before .before .before .if4 .taken)))) ∙ sym (c .before .all-met .ensures) ∙ c .if6 .left))
 
 last-ok-requires : tie.Need-last-ok-requires
 last-ok-requires c κs = (c .before .before .before .before .before .before .before .before .before .before .before .before .before .before .before .before .before .before .before .before .if1 .left, sizes-of (c .before .before .before .before .before .before .before .before .before .before .before .before .before .before .before .before .before .before .before .before .before .before .args .s .now) (sym (c .before .before .before .before .before .before .before .before .before .before .before .before .before .before .before .before .before .before .before .sizes .ensures) ∙ c .before .before .before .before .before .before .before .before .before .before .before .before .before .before .before .before .before .before .if2 .taken) .active)
@@ -103,7 +103,7 @@ pointed-requires : tie.Need-pointed-requires
 pointed-requires c κs = c .before .before .before .before .before .before .before .before .before .pairs-ok2 .kept .1 .0 ∙ c .before .before .before .before .before .before .before .before .before .before .before .before .before .before .pairs-ok .kept .1 .0 ∙ c .before .before .before .before .before .before .before .before .before .before .before .before .before .before .before .before .before .before .before .whole-marked .kept .1 .0
 
 returns-8 : tie.Need-returns-8
-returns-8 c = let s = c .before .before .before .before .before .before .before .before .before .before .before .before .before .before .before .before .before .before .before .before .before .before .before .before .before .before .before .args .s .now in let q = c .before .before .before .before .before .before .before .before .before .before .pairs-ok2 .ensures .marks (c .before .before .before .before .before .before .before .before .if5 .taken) ∙ ap (λ (z : List ℕ). seenAfter 4 z (tree.read (inactivePart s))) (c .before .before .before .before .before .before .before .before .before .before .before .before .before .before .before .pairs-ok .ensures .marks (c .before .before .before .before .before .before .before .before .before .before .before .before .before .if4 .taken)) in c .pointed .ensures ∙ ap (λ (z : List ℕ). pointedB z ((read s) .walk)) q ∙ sym (whole-last s _ (record { long = c .before .before .before .before .before .before .before .before .before .before .before .before .before .before .before .before .before .before .before .before .before .before .before .before .before .if1 .left; sizes = sym (c .before .before .before .before .before .before .before .before .before .before .before .before .before .before .before .before .before .before .before .before .before .before .before .before .sizes .ensures) ∙ c .before .before .before .before .before .before .before .before .before .before .before .before .before .before .before .before .before .before .before .before .before .before .before .if2 .taken; queue = sym (c .before .before .before .before .before .before .before .before .before .before .before .before .before .before .before .before .before .before .before .before .whole-marked .ensures .test) ∙ c .before .before .before .before .before .before .before .before .before .before .before .before .before .before .before .before .before .before .if3 .taken; marked = c .before .before .before .before .before .before .before .before .before .before .before .before .before .before .before .before .before .before .before .before .whole-marked .ensures .marked (c .before .before .before .before .before .before .before .before .before .before .before .before .before .before .before .before .before .before .if3 .taken); room = c .before .before .before .before .before .before .before .before .before .before .before .before .before .before .before .before .before .before .before .before .whole-marked .kept .1 .0 }) (sym (c .before .before .before .before .before .before .before .before .before .before .before .before .before .before .before .pairs-ok .ensures .test) ∙ c .before .before .before .before .before .before .before .before .before .before .before .before .before .if4 .taken) (ap (λ (z : List ℕ). pairsB 8191 1 2 2 4 z 0 (tree.read (inactivePart s))) (sym (c .before .before .before .before .before .before .before .before .before .before .before .before .before .before .before .pairs-ok .ensures .marks (c .before .before .before .before .before .before .before .before .before .before .before .before .before .if4 .taken))) ∙ sym (c .before .before .before .before .before .before .before .before .before .before .pairs-ok2 .ensures .test) ∙ c .before .before .before .before .before .before .before .before .if5 .taken) (ap (λ (z : List ℕ). allB 128 (settledB z)) (sym q) ∙ sym (c .before .before .before .before .before .before .settled .ensures) ∙ c .before .before .before .before .before .if6 .taken) (sym (c .before .before .before .before .last-ok .ensures) ∙ c .before .before .before .if7 .taken))
+returns-8 c = let s = c .before .before .before .before .before .before .before .before .before .before .before .before .before .before .before .before .before .before .before .before .before .before .before .before .before .before .before .args .s .now in let q = c .before .before .before .before .before .before .before .before .before .before .pairs-ok2 .ensures .marks (c .before .before .before .before .before .before .before .before .if5 .taken) ∙ ap (λ (z : List ℕ). seenAfter 4 z (tree.read (inactivePart s))) (c .before .before .before .before .before .before .before .before .before .before .before .before .before .before .before .pairs-ok .ensures .marks (c .before .before .before .before .before .before .before .before .before .before .before .before .before .if4 .taken)) in c .pointed .ensures ∙ ap (λ (z : List ℕ). pointedB z ((read s) .walk)) q ∙ sym (whole-last s _ (record { long = c .before .before .before .before .before .before .before .before .before .before .before .before .before .before .before .before .before .before .before .before .before .before .before .before .before .if1 .left; sizes = sym (c .before .before .before .before .before .before .before .before .before .before .before .before .before .before .before .before .before .before .before .before .before .before .before .before .sizes .ensures) ∙ c .before .before .before .before .before .before .before .before .before .before .before .before .before .before .before .before .before .before .before .before .before .before .before .if2 .taken; queue = sym (c .before .before .before .before .before .before .before .before .before .before .before .before .before .before .before .before .before .before .before .before .whole-marked .ensures .test) ∙ c .before .before .before .before .before .before .before .before .before .before .before .before .before .before .before .before .before .before .if3 .taken; marked = c .before .before .before .before .before .before .before .before .before .before .before .before .before .before .before .before .before .before .before .before .whole-marked .ensures .marked (c .before .before .before .before .before .before .before .before .before .before .before .before .before .before .before .before .before .before .if3 .taken); room = c .before .before .before .before .before .before .before .before .before .before .before .before .before .before .before .before .before .before .before .before .whole-marked .kept .1 .0 }) (sym (c .before .before .before .before .before .before .before .before .before .before .before .before .before .before .before .pairs-ok .ensures .test) ∙ c .before .before .before .before .before .before .before .before .before .before .before .before .before .if4 .taken) (ap (λ (z : List ℕ). pairsB 8191 1 2 2 4 z 0 (tree.read (inactivePart s))) (sym (c .before .before .before .before .before .before .before .before .before .before .before .before .before .before .before .pairs-ok .ensures .marks (c .before .before .before .before .before .before .before .before .before .before .before .before .before .if4 .taken))) ∙ sym (c .before .before .before .before .before .before .before .before .before .before .pairs-ok2 .ensures .test) ∙ c .before .before .before .before .before .before .before .before .if5 .taken) (ap (λ (z : List ℕ). allB 128 (metB z)) (sym q) ∙ sym (c .before .before .before .before .before .before .all-met .ensures) ∙ c .before .before .before .before .before .if6 .taken) (sym (c .before .before .before .before .last-ok .ensures) ∙ c .before .before .before .if7 .taken))
 
 pub whole-spec : {M : Type 1} → statement M
 whole-spec =
@@ -130,8 +130,8 @@ whole-spec =
     slice-aggregate-pairs-ok-2
     pairs-ok-requires-2
     returns-5
-    slice-aggregate-settled
-    settled-requires
+    slice-aggregate-all-met
+    all-met-requires
     returns-6
     last-ok-requires
     returns-7

@@ -6,7 +6,7 @@ use mathlib.Core.List.{List}
 use lib.ListN.{getD, set, length-set}
 use Rattle.tx_queue.specs.Bytes.{read}
 use Rattle.tx_queue.specs.Steps as steps
-use Rattle.tx_queue.specs.Steps.{seated}
+use Rattle.tx_queue.specs.Steps.{requeued}
 use Rattle.tx_queue.proofs.Reading.{known}
 use Rattle.tx_change.specs.Inner.{withQueues, withSets}
 use Rattle.tx_change.proofs.Acts.{became}
@@ -22,20 +22,20 @@ slice-read-wakes c = omega (arith, known (c .before .before .before .args .s .no
 wakes-requires : tie.Need-wakes-requires
 wakes-requires c κs = search needs
 
-seat-requires : tie.Need-seat-requires
-seat-requires c κs = search needs
+requeue-requires : tie.Need-requeue-requires
+requeue-requires c κs = search needs
 
 set-sets-requires : tie.Need-set-sets-requires
-set-sets-requires c κs = (omega (arith, known (c .before .before .before .before .before .before .before .before .before .args .s .now) (c .before .before .before .before .before .before .before .before .before .pre .0) .long, c .before .before .before .seat .kept .0), c .before .before .before .before .before .before .before .before .before .pre .1 .0)
+set-sets-requires c κs = (omega (arith, known (c .before .before .before .before .before .before .before .before .before .args .s .now) (c .before .before .before .before .before .before .before .before .before .pre .0) .long, c .before .before .before .requeue .kept .0), c .before .before .before .before .before .before .before .before .before .pre .1 .0)
 
 slice-write-s : tie.Need-slice-write-s
-slice-write-s c = omega (arith, known (c .before .before .before .before .before .before .before .before .before .before .before .before .args .s .now) (c .before .before .before .before .before .before .before .before .before .before .before .before .pre .0) .long, c .before .before .before .before .before .before .seat .kept .0, c .before .before .set-sets .kept .0)
+slice-write-s c = omega (arith, known (c .before .before .before .before .before .before .before .before .before .before .before .before .args .s .now) (c .before .before .before .before .before .before .before .before .before .before .before .before .pre .0) .long, c .before .before .before .before .before .before .requeue .kept .0, c .before .before .set-sets .kept .0)
 
 same-length : tie.Need-same-length
-same-length c = omega (arith, length-set (c .before .before .set-sets .last .0) 676 0, c .before .before .before .before .before .before .seat .kept .0, c .before .before .set-sets .kept .0)
+same-length c = omega (arith, length-set (c .before .before .set-sets .last .0) 676 0, c .before .before .before .before .before .before .requeue .kept .0, c .before .before .set-sets .kept .0)
 
 returns : tie.Need-returns
-returns c = let s = c .before .before .before .before .before .before .before .before .before .before .before .before .args .s .now in let e = c .before .before .before .before .before .before .before .before .before .before .before .before .args .entry in let from = c .before .before .before .before .before .before .before .before .before .before .before .before .args .from in let ready = c .before .before .before .before .before .before .before .before .before .before .before .before .args .ready in let started = c .before .before .before .before .before .before .before .before .before .before .before .before .args .started in (c .before .before .before .before .before .before .before .before .wakes .ensures ∙ ap (λ (k : ℕ). steps.wakes from k (getD s 674 0)) (c .before .before .before .before .before .before .before .before .before .before .place .ensures .0), ap (λ (z : List ℕ). set z 676 0) (c .before .before .set-sets .ensures ∙ ap (λ (z : List ℕ). withSets z e ready started) (c .before .before .before .before .before .before .seat .ensures ∙ ap (λ (k : ℕ). withQueues s (seated from k e (read s .queues))) (c .before .before .before .before .before .before .before .before .before .before .place .ensures .0))) ∙ became s (λ i. omega (arith, c .before .before .before .before .before .before .before .before .before .before .before .slice-known .given i)) (c .before .before .before .before .before .before .before .before .before .before .before .before .pre .0) e (c .before .before .before .before .before .before .before .before .before .before .before .before .pre .1 .0) from ready started)
+returns c = let s = c .before .before .before .before .before .before .before .before .before .before .before .before .args .s .now in let e = c .before .before .before .before .before .before .before .before .before .before .before .before .args .entry in let from = c .before .before .before .before .before .before .before .before .before .before .before .before .args .from in let ready = c .before .before .before .before .before .before .before .before .before .before .before .before .args .ready in let started = c .before .before .before .before .before .before .before .before .before .before .before .before .args .started in (c .before .before .before .before .before .before .before .before .wakes .ensures ∙ ap (λ (k : ℕ). steps.wakes from k (getD s 674 0)) (c .before .before .before .before .before .before .before .before .before .before .place .ensures .0), ap (λ (z : List ℕ). set z 676 0) (c .before .before .set-sets .ensures ∙ ap (λ (z : List ℕ). withSets z e ready started) (c .before .before .before .before .before .before .requeue .ensures ∙ ap (λ (k : ℕ). withQueues s (requeued from k e (read s .queues))) (c .before .before .before .before .before .before .before .before .before .before .place .ensures .0))) ∙ became s (λ i. omega (arith, c .before .before .before .before .before .before .before .before .before .before .before .slice-known .given i)) (c .before .before .before .before .before .before .before .before .before .before .before .before .pre .0) e (c .before .before .before .before .before .before .before .before .before .before .before .before .pre .1 .0) from ready started)
 
 pub becomes-spec : {M : Type 1} → statement M
 becomes-spec =
@@ -44,7 +44,7 @@ becomes-spec =
     place-requires
     slice-read-wakes
     wakes-requires
-    seat-requires
+    requeue-requires
     set-sets-requires
     slice-write-s
     same-length

@@ -8,7 +8,7 @@ use Rattle.tx_queue.proofs.Reading.{known}
 use Rattle.tx_queue.specs.Steps.{pick}
 use Rattle.tx_queue.specs.declared.Answer.the-variants.{Refused, Picked}
 use Rattle.tx_change.proofs.Acts.{pick-opened}
-use Rattle.tx_fair.proofs.Mean.{mtu-most}
+use Rattle.tx_valid.proofs.Mean.{mtu-most}
 use Rattle.tx_change.proofs.Calls.{refused, changed, pick-mtu, pick-again, pick-some, pick-none, mask-stored, mask-kept}
 use Rattle.tx_change.proofs.pick.Statement.{statement}
 use Rattle.tx_change.proofs.pick.Tie as tie

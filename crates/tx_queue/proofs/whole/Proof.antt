@@ -1,7 +1,7 @@
 use borrow.Author.Needs.{needs}
 use mathlib.Core.Path.{refl, sym, _∙_}
 use Rattle.multi_cycle_list.specs.Inner.{unmarked}
-use Rattle.tx_queue.proofs.Grounds.{no-length, no-sizes, no-queue, no-seats, whole-last}
+use Rattle.tx_queue.proofs.Grounds.{no-length, no-sizes, no-queue, no-placed, whole-last}
 use Rattle.tx_queue.proofs.whole.Statement.{statement}
 use Rattle.tx_queue.proofs.whole.Tie as tie
 
@@ -40,7 +40,7 @@ marks-ok-requires : tie.Need-marks-ok-requires
 marks-ok-requires c κs = search needs
 
 returns-4 : tie.Need-returns-4
-returns-4 c = sym (no-seats (c .before .before .before .before .before .before .before .before .before .before .before .before .args .s .now) _ (record { long = c .before .before .before .before .before .before .before .before .before .before .if1 .left; sizes = sym (c .before .before .before .before .before .before .before .before .before .sizes .ensures) ∙ c .before .before .before .before .before .before .before .before .if2 .taken; queue = sym (c .before .before .before .before .before .whole-marked .ensures .test) ∙ c .before .before .before .if3 .taken; marked = c .before .before .before .before .before .whole-marked .ensures .marked (c .before .before .before .if3 .taken) }) (sym (c .before .marks-ok .ensures) ∙ c .if4 .left))
+returns-4 c = sym (no-placed (c .before .before .before .before .before .before .before .before .before .before .before .before .args .s .now) _ (record { long = c .before .before .before .before .before .before .before .before .before .before .if1 .left; sizes = sym (c .before .before .before .before .before .before .before .before .before .sizes .ensures) ∙ c .before .before .before .before .before .before .before .before .if2 .taken; queue = sym (c .before .before .before .before .before .whole-marked .ensures .test) ∙ c .before .before .before .if3 .taken; marked = c .before .before .before .before .before .whole-marked .ensures .marked (c .before .before .before .if3 .taken) }) (sym (c .before .marks-ok .ensures) ∙ c .if4 .left))
 
 pick-ok-requires : tie.Need-pick-ok-requires
 pick-ok-requires c κs = (c .before .before .before .before .before .before .before .before .before .before .if1 .left, (sym (c .before .before .before .before .before .before .before .before .before .sizes .ensures) ∙ c .before .before .before .before .before .before .before .before .if2 .taken, sym (c .before .before .before .before .before .whole-marked .ensures .test) ∙ c .before .before .before .if3 .taken))

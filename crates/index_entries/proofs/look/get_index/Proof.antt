@@ -3,7 +3,7 @@ use native.Mathlib.Omega.{arith}
 use Prim.Native.Nat.{ℕ, _+_, _-_, _*_}
 use mathlib.Core.Path.{_≡_, refl, sym, ap, _∙_, subst}
 use Rattle.state.proofs.Tests.{byte-fits}
-use Rattle.index_entries.specs.Answers.{placeOf}
+use Rattle.index_entries.specs.Inner.{placeOf}
 use Rattle.index_entries.proofs.Facts.{facts-of, found-index, found-no-index, found-past}
 use Rattle.index_entries.proofs.look.get_index.Statement.{statement}
 use Rattle.index_entries.proofs.look.get_index.Tie as tie

@@ -5,7 +5,7 @@ use mathlib.Core.Path.{_≡_, refl, sym, ap, _∙_, subst}
 use Rattle.state.proofs.Tests.{byte-fits}
 use borrow.Author.Tests.{lt-ltb, le-ltb}
 use Rattle.index_entries.specs.Bytes.{entries, keyWord, value}
-use Rattle.index_entries.specs.Answers.{heldOf}
+use Rattle.index_entries.specs.Inner.{heldOf}
 use Rattle.index_entries.proofs.Facts.{facts-of, slot-in}
 use Rattle.index_entries.proofs.Held.{held-value, held-spent, held-free}
 use Rattle.index_entries.proofs.look.held_at.Statement.{statement}

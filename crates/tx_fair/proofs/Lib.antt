@@ -1,4 +1,0 @@
-pub mod Seats
-pub mod Keeping
-pub mod Reading
-pub mod Mean

@@ -12,7 +12,7 @@ from proving import WORK
 from source import File, Trouble, digest_of, root
 
 HOME = WORK / "compiled"
-RUSTC = ["nice", "rustc", "--edition", "2021", "-O", "-C", "overflow-checks=on", "-C", "panic=abort", "--cap-lints", "allow"]
+RUSTC = ["nice", root / "oracle/rustc", "--edition", "2021", "-O", "-C", "overflow-checks=on", "-C", "panic=abort", "--cap-lints", "allow"]
 NO_LIBRARY = 99
 KINDS = ("mcq", "iq", "reg", "lb", "req", "txm", "txr", "img")
 

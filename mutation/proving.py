@@ -109,7 +109,9 @@ def verdict(said, mutant):
     its own proof names a fact, and none says that the proof does not fit. 'unfit': it is refused for anything else. None: it waits for a
     function that it calls and that is refused, and has no error of its own."""
     crate, *inner = mutant.function.path.split("::")
-    word = logs.verdicts(said, crate)["::".join(inner)]
+    word = logs.verdicts(said, crate).get("::".join(inner))
+    if not word:
+        raise Trouble(f"the log says nothing of {mutant.function.path}")
     folder = f"/crates/{crate}/proofs/{'/'.join(inner)}/"
     own = [text.partition(folder)[2] for path, _, text in logs.errors(said) if folder in path and not logs.WAITS.search(text)]
     if word == "proved":

@@ -15,7 +15,7 @@ def digest(crate):
 
 def keep(crate, results, seconds):
     WORK.mkdir(parents=True, exist_ok=True)
-    said = {"digest": digest(crate), "seconds": seconds, "mutants": results}
+    said = {"seconds": seconds, "mutants": results}
     (WORK / f"{crate}.json").write_text(json.dumps(said, indent=1, ensure_ascii=False), encoding="utf-8")
 
 
@@ -24,12 +24,14 @@ def kept(crate):
     return json.loads(file.read_text(encoding="utf-8")) if file.exists() else None
 
 
-def still_good(crate):
-    """The results that are kept of the crate as it stands, by name, and the seconds that they took."""
-    said = kept(crate)
-    if not said or said["digest"] != digest(crate):
+def still_good(crate, same_code):
+    """The results that are kept of the crate as it stands, by name, and the seconds that they took; with `same_code` also those that
+    were made before something around the same edit changed."""
+    said, now = kept(crate), digest(crate)
+    if not said:
         return {}, 0
-    return {r["name"]: r for r in said["mutants"]}, said["seconds"]
+    good = {r["name"]: r for r in said["mutants"] if same_code or r["digest"] == now}
+    return good, said["seconds"] if good else 0
 
 
 def listed():
@@ -192,8 +194,10 @@ def write(mutation, sample):
     for crate, said in per_crate.items():
         if said and set(r["name"] for r in said["mutants"]) != set(m.name for m in mutation.chosen(crate)):
             found.append(f"{crate}: its code has changed since its results were made")
-        elif said and said["digest"] != digest(crate):
-            print(f"{crate}: its definitions, contracts or proofs have changed since its results were made; its code has not")
+        elif said:
+            earlier = sum(r["digest"] != digest(crate) for r in said["mutants"])
+            if earlier:
+                print(f"{crate}: {earlier} results were made before its definitions, contracts, proofs or comments changed")
     if found:
         return found
     for crate, said in per_crate.items():

@@ -85,7 +85,7 @@ def counts(results):
 
 TEXT = """# Mutation
 
-`mutation/run` changes the code of the calls, one small edit at a time, and holds that each of these mutants is found out: the prover refuses it for a fact that no longer holds, or it is compiled without its proof and a run tells it from the Rust, or it is listed as equivalent with the reason. `mutation/run --write-docs` made this document from the results of the last run.
+`mutation/run` changes the code of the calls, one small edit at a time, and holds that each of these mutants is found out: the prover refuses it for a fact that no longer holds, or it is compiled without its proof and a run tells it from the Rust, or it is listed as equivalent with the reason. `mutation/run --write-docs` made this document from the results that are kept.
 
 ## What is changed
 
@@ -112,7 +112,7 @@ Rattle's toolchain compiles only what is proved. But its text without contracts 
 
 {table}
 
-{told}
+{told}{earlier}
 
 ## Equivalent mutants
 
@@ -126,7 +126,7 @@ Rattle's toolchain compiles only what is proved. But its text without contracts 
     mutation/run --sample               # {sample} mutants of small crates, for the gate
     mutation/run --write-docs           # this document, from target/mutation/
 
-It needs what `.ci/run` needs, with the Rust source. Results of a crate that has not changed are used again, unless `--anew` is said. The seconds above are those of the run that made this document, two crates at a time on two cores that had other work too; together they are {minutes} minutes. It exits with 1 if a mutant is accepted or survives and `mutation/equivalent.txt` does not list it, if one that is listed is refused, told by a run or gone, or if the prover accepts what a run tells.
+It needs what `.ci/run` needs, with the Rust source. Results of a crate that has not changed are used again, unless `--anew` is said. The seconds above were measured with two crates at a time on two cores that had much other work too; together they are {minutes} minutes. It exits with 1 if a mutant is accepted or survives and `mutation/equivalent.txt` does not list it, if one that is listed is refused, told by a run or gone, or if the prover accepts what a run tells.
 """
 
 EXAMPLES = {
@@ -135,7 +135,7 @@ EXAMPLES = {
     "neighbouring byte": "the same in an index or the ends of a range: `s[1034]` becomes `s[1035]`",
     "operand": "another name in scope of the same type; an argument becomes 0",
     "operands swapped": "two arguments of one type, next to each other",
-    "operator": "`+` becomes `-`, `*` becomes `+`, `/` becomes `%`, `&` becomes `|`, `<<` becomes `>>`, and back; `!` goes",
+    "operator": "`+` becomes `-`, `*` becomes `+`, `/` becomes `%`, `&` becomes `\\|`, `<<` becomes `>>`, and back; `!` goes",
     "case": "another case of the enum that holds the same, another constant of the type",
     "callee": "another function of the same signature: `inner_front` becomes `inner_back`",
     "negated condition": "`if c` becomes `if !c`, `while c` becomes `while !c`",
@@ -179,6 +179,17 @@ def told_by(results):
     return f"Of the {len(ran)} told by a run, {first}; {how['it stops']} by an index out of range or an overflow, {how['it does not end']} because they do not end, the others by another answer, other bytes or another output."
 
 
+def made_earlier(per_crate):
+    """How many results are of an earlier state of their crates, which mutation/run --same-code let stand."""
+    found = sum(r["digest"] != digest(crate) for crate, said in per_crate.items() for r in said["mutants"])
+    if not found:
+        return ""
+    return (
+        f"\n\n{found} of these results were made before a definition, a contract, a proof, a comment or another function of their crates"
+        " changed, and let stand by `--same-code`: the edits are the same. `mutation/run` makes them anew."
+    )
+
+
 def equivalent_text():
     rows = []
     for name, (old, new, argument) in listed().items():
@@ -194,10 +205,6 @@ def write(mutation, sample):
     for crate, said in per_crate.items():
         if said and set(r["name"] for r in said["mutants"]) != set(m.name for m in mutation.chosen(crate)):
             found.append(f"{crate}: its code has changed since its results were made")
-        elif said:
-            earlier = sum(r["digest"] != digest(crate) for r in said["mutants"])
-            if earlier:
-                print(f"{crate}: {earlier} results were made before its definitions, contracts, proofs or comments changed")
     if found:
         return found
     for crate, said in per_crate.items():
@@ -210,6 +217,7 @@ def write(mutation, sample):
             kinds=kinds_table(standing),
             table=crates_table(per_crate),
             told=told_by(standing),
+            earlier=made_earlier(per_crate),
             equivalent=equivalent_text(),
             sample=sample,
             minutes=round(sum(said["seconds"] for said in per_crate.values()) / 60),

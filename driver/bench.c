@@ -84,7 +84,7 @@ static void write_heads(void)
 /* What no call comes near to, however slow the machine                     */
 /* ------------------------------------------------------------------------ */
 
-enum { ABSURD_PASSES = 100, ABSURD_NS = 1000 };
+enum { ABSURD_PASSES = 40, ABSURD_NS = 1000 };
 
 static bool was_absurd;
 

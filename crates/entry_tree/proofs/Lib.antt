@@ -9,7 +9,5 @@ pub mod Walking
 pub mod Cells
 pub mod Laid
 pub mod Moves
-pub mod Merging
-pub mod Writing
 pub mod Once
 pub mod Fitting

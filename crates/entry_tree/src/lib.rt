@@ -1,5 +1,4 @@
 // `RBTree` of entries by subject, as an ordered array in 385 lent bytes. Inner: these cross crates and may require.
-pub mod merge;
 pub mod walk;
 pub mod whole;
 
@@ -85,7 +84,7 @@ pub fn has_subject(t: &[u8], subject: u16) -> bool
 
 // ---- changing
 
-pub(crate) fn write_place(t: &mut [u8], place: usize, entry: u8, subject: u16)
+pub fn write_place(t: &mut [u8], place: usize, entry: u8, subject: u16)
     requires { ⌜ (length (now t) ≡ treeLength) × (place < 128) ⌝ }
     ensures { λ _. ⌜ now (t .exit) ≡ setCell (now (t .entry)) place (cellOf (pair entry subject)) ⌝ }
 {

@@ -31,8 +31,8 @@ use Rattle.regular_valid.proofs.Reading.{parts, read-facts, read-whole}
 use Rattle.regular_valid.proofs.Poll.{again-shorter, step-next}
 use Rattle.regular_valid.proofs.Round.{queue-read, laid-read, laid-again}
 use Rattle.regular_valid.proofs.Mean.{read-laid, laid-whole, laid-bytes}
-use Rattle.regular_change.specs.Inner.{again, Again, Activated}
-use Rattle.regular_change.proofs.Taking.{whole-steps}
+use Rattle.regular_activation.specs.Inner.{again, Again, Activated}
+use Rattle.regular_activation.proofs.Taking.{whole-steps}
 use Rattle.rx_msg.proofs.Calls.{changes}
 
 -- ---- the queues' fronts

@@ -10,7 +10,7 @@ use multi_cycle_list::inner::inner_front;
 use regular::Answer;
 use regular::Popped;
 use regular::whole;
-use regular_change::activation::activate_known;
+use regular_activation::activate_known;
 use regular_change::change::join;
 use regular_change::change::leave_active;
 use regular_change::change::leave_inactive;

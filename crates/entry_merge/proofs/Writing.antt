@@ -11,8 +11,8 @@ use lib.Dec.{leb, ltb}
 use borrow.Author.Tests.{le-leb, lt-leb, lt-ltb, le-ltb, eq-eqb, ne-eqb, leb-true, leb-false}
 use borrow.Rule.Slice.PartMut.{putMid}
 use Rattle.entry_tree.specs.Pairs.{Pair, pair, inOrder}
-use Rattle.entry_tree.specs.Places.{treeLength, size, entryAt, subjectAt, pairAt, read, laid}
-use Rattle.entry_tree.specs.Inner.{Cell, cellAt, cellOf, setCell}
+use Rattle.entry_tree.specs.Places.{size, entryAt, subjectAt, pairAt, read, laid}
+use Rattle.entry_tree.specs.Inner.{treeLength, Cell, cellAt, cellOf, setCell}
 use Rattle.entry_merge.specs.Inner.{kept, stays, filled, merged, Written}
 use Rattle.entry_tree.proofs.Lists.{none}
 use Rattle.entry_tree.proofs.Reading.{read-length}

@@ -10,7 +10,8 @@ ghost use Prim.Native.Nat.{_+_, _<_, _≤_};
 ghost use lib.Dec.{leb, ltb};
 ghost use lib.ListN.{length};
 ghost use Rattle.entry_tree.specs.Pairs.{inOrder};
-ghost use Rattle.entry_tree.specs.Places.{treeLength, size, subjectAt, read, laid};
+ghost use Rattle.entry_tree.specs.Places.{size, subjectAt, read, laid};
+ghost use Rattle.entry_tree.specs.Inner.{treeLength};
 ghost use Rattle.entry_merge.specs.Inner.{kept, stays, filled, merged, Written};
 
 // Moves the pairs whose entries bear no mark to the front. How many they are.

@@ -7,8 +7,8 @@ use native.Mathlib.Omega.{arith}
 use native.Mathlib.Decide.{decLt}
 use lib.ListN.{length, getD, set, length-set}
 use lib.Seq.{ext-getD, getD-set-same, getD-set-other}
-use Rattle.entry_tree.specs.Places.{treeLength, size}
-use Rattle.entry_tree.specs.Inner.{Cell, cellAt, setCell}
+use Rattle.entry_tree.specs.Places.{size}
+use Rattle.entry_tree.specs.Inner.{treeLength, Cell, cellAt, setCell}
 
 pub cell-same : (a b : Cell) → a .entry ≡ b .entry → a .low ≡ b .low → a .high ≡ b .high → a ≡ b
 cell-same a b p q r = λ i. record { entry = p i; low = q i; high = r i }

@@ -10,8 +10,8 @@ use lib.ListN.{length, getD}
 use lib.Dec.{leb}
 use borrow.Author.Tests.{le-leb, lt-leb, leb-true, leb-false, eqb-true, ne-eqb}
 use Rattle.state.proofs.Tests.{and-l, and-r, and-true, by-cond}
-use Rattle.entry_tree.specs.Pairs.{Pair, bit, count, position, isEntry, without, inserted, inOrder, inRange}
-use Rattle.entry_tree.specs.Inner.{removedAt}
+use Rattle.entry_tree.specs.Pairs.{Pair, bit, count, isEntry, without, inserted, inOrder, inRange}
+use Rattle.entry_tree.specs.Inner.{position, removedAt}
 use Rattle.entry_tree.proofs.Lists.{none}
 
 -- ---- subject order

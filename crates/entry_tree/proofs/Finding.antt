@@ -10,11 +10,11 @@ use lib.Dec.{ltb}
 use lib.ListN.{length, getD, drop, length-append, drop-of-length-le}
 use lib.Seq.{drop-cons}
 use borrow.Author.Tests.{ltb-true, lt-ltb, le-ltb}
-use Rattle.entry_tree.specs.Pairs.{Pair, pair, bit, count, any, position, isEntry, without, placeOf}
+use Rattle.entry_tree.specs.Pairs.{Pair, pair, bit, count, any, isEntry, without, placeOf}
 use Rattle.entry_tree.specs.Places as tree
 use Rattle.entry_tree.specs.Places.{size, entryAt, subjectAt, pairAt}
 use Rattle.entry_tree.specs.Walks.{nextOn}
-use Rattle.entry_tree.specs.Inner.{removedAt}
+use Rattle.entry_tree.specs.Inner.{position, removedAt}
 use Rattle.entry_tree.proofs.Lists.{none, place-rest}
 use Rattle.entry_tree.proofs.Reading.{read-length, read-at, read-any, read-place-subject}
 use Rattle.entry_tree.proofs.Changes.{removed-without}

@@ -10,8 +10,8 @@ use lib.ListN.{length, getD, drop, replicate, length-append, length-drop, length
 use lib.Seq.{ext-getD, getD-append-add, getD-drop}
 use Rattle.state.specs.Result.{Bytes}
 use Rattle.entry_tree.specs.Pairs.{Pair, inRange}
-use Rattle.entry_tree.specs.Places.{treeLength, size, taken, pairAt, read, places, laid}
-use Rattle.entry_tree.specs.Inner.{Cell, cellAt, cellOf}
+use Rattle.entry_tree.specs.Places.{size, taken, pairAt, read, places, laid}
+use Rattle.entry_tree.specs.Inner.{treeLength, Cell, cellAt, cellOf}
 use Rattle.entry_tree.proofs.Lists.{none}
 use Rattle.entry_tree.proofs.Reading.{read-length, read-at}
 use Rattle.entry_tree.proofs.Changes.{range-at}

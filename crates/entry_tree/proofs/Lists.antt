@@ -9,7 +9,8 @@ use lib.ListN.{length, getD, drop, drop-of-length-le}
 use lib.Seq.{drop-cons}
 use lib.Dec.{ltb, leb·suc-suc}
 use borrow.Author.Tests.{lt-ltb}
-use Rattle.entry_tree.specs.Pairs.{Pair, pair, bit, count, any, position, isEntry, Place, find, placeOf, past}
+use Rattle.entry_tree.specs.Pairs.{Pair, pair, bit, count, any, isEntry, Place, find, placeOf, past}
+use Rattle.entry_tree.specs.Inner.{position}
 
 -- what stands past the end of a list
 abbrev pub none : Pair

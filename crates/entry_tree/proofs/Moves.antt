@@ -9,8 +9,8 @@ use lib.ListN.{length, getD, set, length-set}
 use lib.Seq.{getD-set-same, getD-set-other}
 use Rattle.state.specs.Result.{Bytes}
 use Rattle.entry_tree.specs.Pairs.{Pair, pair, inserted, inOrder}
-use Rattle.entry_tree.specs.Places.{treeLength, size, subjectAt, read, laid}
-use Rattle.entry_tree.specs.Inner.{cellAt, cellOf, setCell, Between, Forth, Back, removedAt}
+use Rattle.entry_tree.specs.Places.{size, subjectAt, read, laid}
+use Rattle.entry_tree.specs.Inner.{treeLength, cellAt, cellOf, setCell, Between, Forth, Back, removedAt}
 use Rattle.entry_tree.proofs.Lists.{none}
 use Rattle.entry_tree.proofs.Reading.{read-length, read-at}
 use Rattle.entry_tree.proofs.Changes.{order-at, inserted-length, inserted-at, Joined, removed-length, removed-before, removed-after}

@@ -13,7 +13,8 @@ use Rattle.state.specs.Seq.{allB, each}
 use Rattle.state.proofs.Seq.{all-true, all-at}
 use Rattle.state.proofs.Tests.{and-l, and-r, and-true}
 use Rattle.entry_tree.specs.Pairs.{Pair, pair, bit, count, isEntry, onSubject, hasEntry, inserted, without, inRange, inOrder, rising, onceB}
-use Rattle.entry_tree.specs.Places.{treeLength, size, pairAt, read, laid}
+use Rattle.entry_tree.specs.Places.{size, pairAt, read, laid}
+use Rattle.entry_tree.specs.Inner.{treeLength}
 use Rattle.entry_tree.proofs.Changes.{order-cons, order-lower, by-order, inserted-count, by-entry, without-count}
 use Rattle.entry_tree.proofs.Count.{same, diff, compareEq, any-false, few-entries}
 use Rattle.entry_tree.proofs.Finding.{few-others}

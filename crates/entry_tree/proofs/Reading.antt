@@ -12,8 +12,9 @@ use mir.Val.{Fits}
 use mir.Syntax.{w8}
 use Rattle.state.specs.Result.{Bytes}
 use Rattle.state.proofs.Seq.{length-each, getD-each}
-use Rattle.entry_tree.specs.Pairs.{Pair, any, position, isEntry, placeOf, past}
+use Rattle.entry_tree.specs.Pairs.{Pair, any, isEntry, placeOf, past}
 use Rattle.entry_tree.specs.Places.{size, entryAt, subjectAt, pairAt, read}
+use Rattle.entry_tree.specs.Inner.{position}
 use Rattle.entry_tree.proofs.Lists.{none, any-position, position-true, position-at, position-none, place-subject, place-from, place-rest-next, place-rest-end, from-first, from-next, past-none, past-last}
 
 pub bytes-of : (s : List ℕ) → ((i : ℕ) → Fits w8 (getD s i 0)) → Bytes s

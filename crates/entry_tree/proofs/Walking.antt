@@ -13,10 +13,10 @@ use lib.ListN.{length, getD, set, drop}
 use lib.Seq.{set-getD}
 use borrow.Author.Tests.{lt-ltb, le-ltb, eqb-true, eqb-false, eq-eqb, ne-eqb}
 use Rattle.state.proofs.Tests.{by-cond}
-use Rattle.entry_tree.specs.Pairs.{Pair, count, position, isEntry, onSubject, find, placeOf, without}
+use Rattle.entry_tree.specs.Pairs.{Pair, count, isEntry, onSubject, find, placeOf, without}
 use Rattle.entry_tree.specs.Places.{size, entryAt, read}
 use Rattle.entry_tree.specs.Walks.{first, firstOn, nextOn, movedPast, walkOf, walkOver}
-use Rattle.entry_tree.specs.Inner.{walkAt, withWalk, withWalkPast}
+use Rattle.entry_tree.specs.Inner.{position, walkAt, withWalk, withWalkPast}
 use Rattle.entry_tree.specs.declared.walk.Walk.{Walk}
 use Rattle.entry_tree.specs.declared.walk.Walk.the-variants.{At, Ended}
 use Rattle.entry_tree.proofs.Lists.{none as no-pair}

@@ -1,9 +1,9 @@
--- Inner: a place's three bytes, what the code's stores do to them, what its loops keep, and a walk's byte.
+-- Inner: a tree's length, the place of a pair, a place's three bytes, what the code's stores do to them, what its loops keep, and a walk's byte.
 use Prim.Native.Nat.{ℕ, zero, suc, _+_, _-_, _*_, _/_, _%_, _<_, _≤_}
 use mathlib.Core.Path.{_≡_}
 use mathlib.Core.List.{List, [], _∷_}
 use mathlib.Core.Option.{Option, none, some}
-use mathlib.Core.Bool.{cond}
+use mathlib.Core.Bool.{Bool, cond}
 use lib.Dec.{eqb}
 use lib.ListN.{length, getD, set}
 use Rattle.entry_tree.specs.Pairs.{Pair}
@@ -11,6 +11,14 @@ use Rattle.entry_tree.specs.Places.{size, subjectAt}
 use Rattle.entry_tree.specs.Walks.{walkOver}
 use Rattle.entry_tree.specs.declared.walk.Walk.{Walk}
 use Rattle.entry_tree.specs.declared.walk.Walk.the-variants.{At, Ended}
+
+abbrev pub treeLength : ℕ
+treeLength = 385
+
+-- how many pairs stand before the first that passes a test
+abbrev pub position : (Pair → Bool) → List Pair → ℕ
+position t [] = 0
+position t (p ∷ l) = cond (t p) 0 (suc (position t l))
 
 -- the list without its pair i
 abbrev pub removedAt : ℕ → List Pair → List Pair

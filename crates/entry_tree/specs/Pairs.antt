@@ -15,17 +15,13 @@ abbrev pub bit : Bool → ℕ
 bit true = 1
 bit false = 0
 
--- how many pairs of a list pass a test, whether any does, and how many stand before the first that does
+-- how many pairs of a list pass a test, and whether any does
 abbrev pub count : (Pair → Bool) → List Pair → ℕ
 count t [] = 0
 count t (p ∷ l) = bit (t p) + count t l
 
 abbrev pub any : (Pair → Bool) → List Pair → Bool
 any t l = ltb 0 (count t l)
-
-abbrev pub position : (Pair → Bool) → List Pair → ℕ
-position t [] = 0
-position t (p ∷ l) = cond (t p) 0 (suc (position t l))
 
 abbrev pub isEntry : ℕ → Pair → Bool
 isEntry e p = eqb e (p .entry)

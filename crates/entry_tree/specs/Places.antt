@@ -6,9 +6,6 @@ use lib.ListN.{length, getD, drop, replicate}
 use Rattle.state.specs.Seq.{each}
 use Rattle.entry_tree.specs.Pairs.{Pair, pair}
 
-abbrev pub treeLength : ℕ
-treeLength = 385
-
 abbrev pub size : List ℕ → ℕ
 size t = getD t 0 0
 

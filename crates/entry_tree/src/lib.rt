@@ -6,10 +6,10 @@ ghost use mathlib.Core.Path.{_≡_};
 ghost use mathlib.Core.Bool.{true};
 ghost use Prim.Native.Nat.{_+_, _-_, _*_, _<_, _≤_};
 ghost use lib.ListN.{length};
-ghost use Rattle.entry_tree.specs.Pairs as pairs;
 ghost use Rattle.entry_tree.specs.Pairs.{pair, isEntry, onSubject, hasEntry, hasSubject, inserted, inOrder};
-ghost use Rattle.entry_tree.specs.Places.{treeLength, size, entryAt, subjectAt, read, laid};
-ghost use Rattle.entry_tree.specs.Inner.{cellOf, setCell, Between, Forth, Back, removedAt};
+ghost use Rattle.entry_tree.specs.Places.{size, entryAt, subjectAt, read, laid};
+ghost use Rattle.entry_tree.specs.Inner as inner;
+ghost use Rattle.entry_tree.specs.Inner.{treeLength, cellOf, setCell, Between, Forth, Back, removedAt};
 
 // ---- looking
 
@@ -37,7 +37,7 @@ pub fn subject_at(t: &[u8], i: usize) -> u16
 // The place of the entry, or the number of pairs if it is not there.
 pub fn position(t: &[u8], entry: u8) -> usize
     requires { ⌜ (length (now t) ≡ treeLength) × (size (now t) ≤ 128) ⌝ }
-    ensures { λ r. ⌜ r ≡ pairs.position (isEntry «entry») (read (now (t .entry))) ⌝ }
+    ensures { λ r. ⌜ r ≡ inner.position (isEntry «entry») (read (now (t .entry))) ⌝ }
 {
     let n = len(t);
     let mut i = 0;
@@ -53,7 +53,7 @@ pub fn position(t: &[u8], entry: u8) -> usize
 // The place of the first pair on the subject, or the number of pairs if there is none.
 pub fn first_on(t: &[u8], subject: u16) -> usize
     requires { ⌜ (length (now t) ≡ treeLength) × (size (now t) ≤ 128) ⌝ }
-    ensures { λ r. ⌜ r ≡ pairs.position (onSubject subject) (read (now (t .entry))) ⌝ }
+    ensures { λ r. ⌜ r ≡ inner.position (onSubject subject) (read (now (t .entry))) ⌝ }
 {
     let n = len(t);
     let mut i = 0;

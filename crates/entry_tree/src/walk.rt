@@ -6,9 +6,9 @@ use crate::subject_at;
 ghost use mathlib.Core.Path.{_≡_};
 ghost use Prim.Native.Nat.{suc, _<_, _≤_};
 ghost use lib.ListN.{length, drop};
-ghost use Rattle.entry_tree.specs.Places.{treeLength, size, subjectAt, read};
+ghost use Rattle.entry_tree.specs.Places.{size, subjectAt, read};
 ghost use Rattle.entry_tree.specs.Walks.{first, firstOn, nextOn, isSome};
-ghost use Rattle.entry_tree.specs.Inner.{walkAt, withWalk, withWalkPast};
+ghost use Rattle.entry_tree.specs.Inner.{treeLength, walkAt, withWalk, withWalkPast};
 
 // The entry that a walk points at, or none.
 pub enum Walk {

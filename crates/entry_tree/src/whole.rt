@@ -5,7 +5,8 @@ use crate::subject_at;
 ghost use mathlib.Core.Path.{_≡_};
 ghost use Prim.Native.Nat.{_<_, _≤_};
 ghost use lib.ListN.{length, replicate};
-ghost use Rattle.entry_tree.specs.Places.{treeLength, size, pairAt, read};
+ghost use Rattle.entry_tree.specs.Places.{size, pairAt, read};
+ghost use Rattle.entry_tree.specs.Inner.{treeLength};
 ghost use Rattle.entry_tree.specs.Walks.{walkOf};
 ghost use Rattle.entry_tree.specs.Testing.{pairB, Passed, Fit, pointedB};
 

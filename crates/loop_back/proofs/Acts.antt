@@ -11,11 +11,11 @@ use borrow.Rule.Slice.PartMut.{putMid}
 use Rattle.state.specs.Result.{Bytes}
 use Rattle.state.proofs.Bytes.{bytes-part}
 use Rattle.state.proofs.Filled.{zero-bytes}
-use Rattle.entry_tree.specs.Pairs.{Pair, pair, isEntry, hasEntry, inOrder, inserted, position, placeOf}
+use Rattle.entry_tree.specs.Pairs.{Pair, pair, isEntry, hasEntry, inOrder, inserted, placeOf}
 use Rattle.entry_tree.specs.Places as tree
 use Rattle.entry_tree.specs.Walks.{movedPast, walkOver}
 use Rattle.entry_tree.specs.Inner as inner
-use Rattle.entry_tree.specs.Inner.{removedAt, withWalkPast}
+use Rattle.entry_tree.specs.Inner.{position, removedAt, withWalkPast}
 use Rattle.entry_tree.proofs.Changes.{inserted-length, removed-length}
 use Rattle.entry_tree.proofs.Finding.{removed-is}
 use Rattle.entry_tree.proofs.Laid as trees

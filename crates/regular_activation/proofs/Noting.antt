@@ -9,9 +9,10 @@ use lib.Dec.{eqb}
 use lib.ListN.{getD, set, replicate, length-set, length-replicate, getD-replicate}
 use lib.Seq.{getD-set-same, getD-set-other}
 use borrow.Author.Tests.{eq-eqb}
-use Rattle.entry_tree.specs.Pairs.{position, isEntry, onSubject, hasSubject, placeOf}
+use Rattle.entry_tree.specs.Pairs.{isEntry, onSubject, hasSubject, placeOf}
 use Rattle.entry_tree.specs.Places as tree
 use Rattle.entry_tree.specs.Places.{size, entryAt, subjectAt}
+use Rattle.entry_tree.specs.Inner.{position}
 use Rattle.entry_tree.proofs.Reading.{read-length, read-at, read-place-subject}
 use Rattle.entry_tree.proofs.Count.{same, diff, compareEq, true-any}
 use Rattle.entry_tree.proofs.Finding.{count-at, entry-place}

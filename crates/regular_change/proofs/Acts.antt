@@ -23,9 +23,9 @@ use Rattle.multi_cycle_list.specs.Laid as listsLaid
 use Rattle.multi_cycle_list.proofs.Lists.{without-none, in-count, without-same, count-same, count-gone, count-kept}
 use Rattle.multi_cycle_list.proofs.Laid as queues
 use Rattle.multi_cycle_list.proofs.Changes.{remove-valid}
-use Rattle.entry_tree.specs.Pairs.{Pair, pair, bit, count, isEntry, hasEntry, hasSubject, inserted, without, position, placeOf, Place, past}
+use Rattle.entry_tree.specs.Pairs.{Pair, pair, bit, count, isEntry, hasEntry, hasSubject, inserted, without, placeOf, Place, past}
 use Rattle.entry_tree.specs.Places as tree
-use Rattle.entry_tree.specs.Inner.{removedAt, walkAt, withWalkPast}
+use Rattle.entry_tree.specs.Inner.{position, removedAt, walkAt, withWalkPast}
 use Rattle.entry_tree.proofs.Laid as trees
 use Rattle.entry_tree.proofs.Changes.{removed-length, inserted-length}
 use Rattle.entry_tree.proofs.Reading.{read-length, read-place-subject}

@@ -13,9 +13,10 @@ use Rattle.multi_cycle_list.specs.Lists as lists
 use Rattle.multi_cycle_list.specs.Lists.{first}
 use Rattle.multi_cycle_list.specs.declared.inner.MaybeEntry.the-variants.{Some}
 use Rattle.multi_cycle_list.specs.Nodes as nodes
-use Rattle.entry_tree.specs.Pairs.{Pair, Place, count, position, isEntry, hasEntry, placeOf}
+use Rattle.entry_tree.specs.Pairs.{Pair, Place, count, isEntry, hasEntry, placeOf}
 use Rattle.entry_tree.specs.Places as tree
 use Rattle.entry_tree.specs.Places.{size, entryAt, subjectAt, pairAt}
+use Rattle.entry_tree.specs.Inner.{position}
 use Rattle.entry_tree.proofs.Reading.{read-length, read-at, read-place-subject, read-place-first, read-place-from}
 use Rattle.entry_tree.proofs.Changes.{range-at}
 use Rattle.entry_tree.proofs.Finding.{place-rest-at, drop-end, drop-next, entry-place, entry-counts, few-others}

@@ -10,8 +10,9 @@ use lib.ListN.{length, replicate}
 use borrow.Author.Tests.{lt-ltb, le-ltb, eq-eqb, ne-eqb}
 use Rattle.state.specs.Result.{Result, refuse, done, answer}
 use Rattle.state.proofs.Calls.{Ends, not-whole, is-whole, refused, laid-out}
-use Rattle.entry_tree.specs.Pairs.{Place, position, isEntry, hasEntry, hasSubject, placeOf}
+use Rattle.entry_tree.specs.Pairs.{Place, isEntry, hasEntry, hasSubject, placeOf}
 use Rattle.entry_tree.specs.Places.{size, entryAt}
+use Rattle.entry_tree.specs.Inner.{position}
 use Rattle.entry_tree.proofs.Reading.{read-place-entry}
 use Rattle.regular.specs.Registry.{Registry, fresh}
 use Rattle.regular.specs.Bytes.{activePart, wholeB, read, laid}

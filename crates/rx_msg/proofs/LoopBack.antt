@@ -10,7 +10,8 @@ use lib.ListN.{length, getD, replicate}
 use borrow.Author.Tests.{lt-ltb, le-ltb, eq-eqb, ne-eqb}
 use Rattle.state.specs.Result.{Result, answer, Bytes}
 use Rattle.state.proofs.Calls.{Ends, refused, laid-out}
-use Rattle.entry_tree.specs.Pairs.{isEntry, hasEntry, position, placeOf}
+use Rattle.entry_tree.specs.Pairs.{isEntry, hasEntry, placeOf}
+use Rattle.entry_tree.specs.Inner.{position}
 use Rattle.entry_tree.specs.Places as tree
 use Rattle.entry_tree.specs.Walks.{isSome, firstOn}
 use Rattle.entry_tree.specs.Inner as inner

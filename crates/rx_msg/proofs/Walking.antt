@@ -9,7 +9,7 @@ use lib.ListN.{getD, drop}
 use borrow.Author.Tests.{lt-ltb, le-ltb}
 use Rattle.state.specs.Result.{refuse, done, Bytes}
 use Rattle.state.proofs.Calls.{Ends}
-use Rattle.entry_tree.specs.Pairs.{position, isEntry, placeOf}
+use Rattle.entry_tree.specs.Pairs.{isEntry, placeOf}
 use Rattle.entry_tree.specs.Places as tree
 use Rattle.entry_tree.specs.Places.{size, subjectAt}
 use Rattle.entry_tree.specs.Walks.{firstOn, isSome, nextOn, walkOver}
@@ -23,7 +23,7 @@ use Rattle.regular.proofs.Parts.{set-tail}
 use Rattle.entry_tree.proofs.Count.{true-any}
 use Rattle.regular_valid.proofs.Reading.{read-facts}
 use Rattle.regular_valid.proofs.Round.{tailOf, split-whole, laid-from, laid-read, active-self, inactive-self, queue-self, low-self, high-self, flag-self}
-use Rattle.entry_tree.specs.Inner.{withWalk}
+use Rattle.entry_tree.specs.Inner.{position, withWalk}
 use Rattle.rx_msg.proofs.Calls.{turned-away, changes}
 use Rattle.entry_tree.proofs.Finding.{place-in, place-next}
 use Rattle.entry_tree.proofs.Walking.{walk-at, walk-nowhere}

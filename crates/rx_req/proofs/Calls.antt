@@ -10,10 +10,10 @@ use lib.ListN.{length, replicate, length-replicate, getD-replicate}
 use borrow.Author.Tests.{lt-ltb, le-ltb, eq-eqb, ne-eqb}
 use Rattle.state.specs.Result.{Result, refuse, done, answer}
 use Rattle.state.proofs.Calls.{Ends, not-whole, refused, laid-out}
-use Rattle.entry_tree.specs.Pairs.{pair, position, isEntry, onSubject, hasEntry, hasSubject, inserted, without, inOrder}
-use Rattle.entry_tree.specs.Places.{treeLength, size, entryAt, read, laid}
+use Rattle.entry_tree.specs.Pairs.{pair, isEntry, onSubject, hasEntry, hasSubject, inserted, without, inOrder}
+use Rattle.entry_tree.specs.Places.{size, entryAt, read, laid}
 use Rattle.entry_tree.specs.Walks.{firstOn}
-use Rattle.entry_tree.specs.Inner.{removedAt}
+use Rattle.entry_tree.specs.Inner.{position, treeLength, removedAt}
 use Rattle.entry_tree.proofs.Finding.{found-is, removed-is}
 use Rattle.state.proofs.Filled.{zero-bytes}
 use Rattle.entry_tree.proofs.Reading.{read-length}

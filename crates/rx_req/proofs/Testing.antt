@@ -10,7 +10,8 @@ use borrow.Author.Tests.{leb-true, lt-leb, le-leb, eqb-true, eq-eqb, ne-eqb}
 use Rattle.state.specs.Seq.{allB}
 use Rattle.state.proofs.Tests.{and-l, and-r}
 use Rattle.entry_tree.specs.Pairs.{inRange, onceB, rising}
-use Rattle.entry_tree.specs.Places.{treeLength, size, read}
+use Rattle.entry_tree.specs.Places.{size, read}
+use Rattle.entry_tree.specs.Inner.{treeLength}
 use Rattle.entry_tree.specs.Testing.{pairsFitB}
 use Rattle.entry_tree.proofs.Once.{Once, once-of, of-once}
 use Rattle.entry_tree.proofs.Passing.{order-rising}

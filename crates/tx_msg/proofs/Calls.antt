@@ -14,9 +14,9 @@ use Rattle.state.specs.Result.{Result, refuse, done, answer, Bytes}
 use Rattle.state.proofs.Calls.{Ends, is-whole, refused, laid-out}
 use Rattle.state.proofs.Filled.{filled-all, zero-bytes}
 use Rattle.state.proofs.Tests.{not-both}
-use Rattle.entry_tree.specs.Pairs.{Pair, pair, isEntry, hasSubject, position, inserted, without, inOrder}
+use Rattle.entry_tree.specs.Pairs.{Pair, pair, isEntry, hasSubject, inserted, without, inOrder}
 use Rattle.entry_tree.specs.Places as tree
-use Rattle.entry_tree.specs.Inner.{removedAt}
+use Rattle.entry_tree.specs.Inner.{position, removedAt}
 use Rattle.entry_tree.proofs.Finding.{place-in, removed-is}
 use Rattle.entry_tree.proofs.Once as once
 use Rattle.entry_tree.proofs.Once.{rising-order, empty-tree}

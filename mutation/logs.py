@@ -8,7 +8,7 @@ NO_CODE = re.compile(r"is not in scope|/(?:src|specs)/[^ ]*: error")
 # A fact is named that does not hold: omega shows numbers at which it fails; two propositions that had to be one differ; a path's ends
 # do. What another tactic says of itself, as search that finds no proof, is no such fact.
 FACT = re.compile(
-    r"error: `[^`]*`: (?:`omega`: the goal does not follow from what it read\. All of that holds, and the goal fails, at"
+    r"error: `[^`]*`: (?:`omega`: the goal does not follow from what it read\. All of that holds, and the goal fails[,.]"
     r"|(?!`)[\s\S]*(?:the two types |expected type `[\s\S]*but this has type `|must be a path whose two ends are equal))"
 )
 # It waits for a declaration that is refused for its own reason.
@@ -34,3 +34,14 @@ def errors(said):
         if match[3] == "error":
             found.append((match[1] or "", int(match[2] or 0), said[match.start() : end].strip()))
     return found
+
+
+def own(said, name):
+    """The errors in the function's own proof, but those that wait for another's, each from its place in the file on."""
+    file = f"/proofs/{name.replace('::', '/')}/Proof.antt"
+    return [text.partition(file)[2] for path, _, text in errors(said) if path.endswith(file) and not WAITS.search(text)]
+
+
+def facts(texts):
+    """The errors that name a fact."""
+    return [text for text in texts if FACT.search(text) and not UNFIT.search(text)]

@@ -112,14 +112,13 @@ def verdict(said, mutant):
     word = logs.verdicts(said, crate).get("::".join(inner))
     if not word:
         raise Trouble(f"the log says nothing of {mutant.function.path}")
-    folder = f"/crates/{crate}/proofs/{'/'.join(inner)}/"
-    own = [text.partition(folder)[2] for path, _, text in logs.errors(said) if folder in path and not logs.WAITS.search(text)]
+    own = logs.own(said, "::".join(inner))
     if word == "proved":
         return "accepted", word
     if not own and "it calls" in word:
         return None
     unfit = [text for text in own if logs.UNFIT.search(text)]
-    facts = [text for text in own if logs.FACT.search(text)]
+    facts = logs.facts(own)
     if facts and not unfit:
         return "fact", facts[0]
     return "unfit", (unfit or own or [word])[0]

@@ -1,40 +1,32 @@
 use borrow.Author.Needs.{needs}
 use native.Mathlib.Omega.{arith}
-use Prim.Native.Nat.{ℕ, _+_, _-_, _*_}
-use mathlib.Core.Path.{_≡_, refl, sym, ap, _∙_, subst}
+use Prim.Native.Nat.{ℕ}
+use mathlib.Core.Path.{ap, _∙_}
+use Rattle.index_entries.specs.Keys.{holds, withSlot}
 use Rattle.index_entries.specs.Bytes.{read}
-use Rattle.index_entries.proofs.Acts.{bytes-of}
-use Rattle.index_entries.specs.Keys.{holds, spent, free, slot, withSlot, withLists, changed}
-use lib.ListN.{length}
 use Rattle.index_entries.specs.Laid.{laid}
+use Rattle.index_entries.proofs.Acts.{bytes-of}
 use Rattle.index_queue.specs.Calls.{getMut}
-use Rattle.index_queue.proofs.Calls.{located, absent, entry-in, held-holds, held-spent, held-free, holding, worded, unwhole, stays, changes, get-mut-at, get-mut-none}
+use Rattle.index_queue.proofs.Calls.{finds-value, worded, unwhole, changes, stays, get-mut-is}
 use Rattle.index_queue.proofs.get_mut.Statement.{statement}
 use Rattle.index_queue.proofs.get_mut.Tie as tie
 
-whole-requires : tie.Need-whole-requires
-whole-requires c κs = search needs
+find-value-requires : tie.Need-find-value-requires
+find-value-requires c κs = search needs
 
-same-length : tie.Need-same-length
-same-length c = search needs
+enum-known-i : tie.Need-enum-known-i
+enum-known-i c = search needs
 
-returns : tie.Need-returns
-returns c = unwhole (getMut (c .before .before .before .before .args .key) (c .before .before .before .before .args .value)) (c .before .before .before .before .args .s .now) (sym (c .before .whole .ensures) ∙ c .if1 .left)
-
-get-index-requires : tie.Need-get-index-requires
-get-index-requires c κs = (sym (c .before .before .whole .ensures) ∙ c .before .if1 .taken)
-
-enum-known-p : tie.Need-enum-known-p
-enum-known-p c = search needs
-
-held-at-requires : tie.Need-held-at-requires
-held-at-requires c κs = ((sym (c .before .before .before .before .before .before .before .whole .ensures) ∙ c .before .before .before .before .before .before .if1 .taken), entry-in (c .before .before .before .before .before .before .before .before .before .before .args .s .now) (sym (c .before .before .before .before .before .before .before .whole .ensures) ∙ c .before .before .before .before .before .before .if1 .taken) (c .before .before .before .before .before .before .before .before .before .before .args .key) (c .before .before .p .given .0 .0) (located (read (c .before .before .before .before .before .before .before .before .before .before .args .s .now)) (c .before .before .before .before .before .before .before .before .before .before .args .key) (c .before .before .p .given .0 .0) (sym (c .before .before .before .before .get-index .ensures) ∙ c .before .before .p .given .1)))
+store-value-requires : tie.Need-store-value-requires
+store-value-requires c κs =
+    let s = c .before .before .before .before .before .before .before .args .s .now in
+    let k = c .before .before .before .before .before .before .before .args .key in
+    let e = finds-value s k (c .before .before .before .before .find-value .ensures) (c .before .before .i .given .1) in
+    let w = worded s k _ _ (e .1) in
+    (e .0, (w .inside, omega (arith, w .key, w .small)))
 
 enum-told : tie.Need-enum-told
 enum-told c = search needs
-
-store-value-requires : tie.Need-store-value-requires
-store-value-requires c κs = let i = entry-in (c .before .before .before .before .before .before .before .before .before .before .before .before .before .before .args .s .now) (sym (c .before .before .before .before .before .before .before .before .before .before .before .whole .ensures) ∙ c .before .before .before .before .before .before .before .before .before .before .if1 .taken) (c .before .before .before .before .before .before .before .before .before .before .before .before .before .before .args .key) (c .before .before .before .before .before .before .p .given .0 .0) (located (read (c .before .before .before .before .before .before .before .before .before .before .before .before .before .before .args .s .now)) (c .before .before .before .before .before .before .before .before .before .before .before .before .before .before .args .key) (c .before .before .before .before .before .before .p .given .0 .0) (sym (c .before .before .before .before .before .before .before .before .get-index .ensures) ∙ c .before .before .before .before .before .before .p .given .1)) in let w = worded (c .before .before .before .before .before .before .before .before .before .before .before .before .before .before .args .s .now) (c .before .before .before .before .before .before .p .given .0 .0) _ _ i (held-holds (slot (read (c .before .before .before .before .before .before .before .before .before .before .before .before .before .before .args .s .now)) (c .before .before .before .before .before .before .p .given .0 .0)) _ _ (sym (c .before .before .before .held-at .ensures) ∙ c .before .enum-told .given .1)) in ((sym (c .before .before .before .before .before .before .before .before .before .before .before .whole .ensures) ∙ c .before .before .before .before .before .before .before .before .before .before .if1 .taken), (i, omega (arith, w .key, w .small)))
 
 enum-told-2 : tie.Need-enum-told-2
 enum-told-2 c = search needs
@@ -42,54 +34,67 @@ enum-told-2 c = search needs
 enum-told-3 : tie.Need-enum-told-3
 enum-told-3 c = search needs
 
-enum-told-4 : tie.Need-enum-told-4
-enum-told-4 c = search needs
+same-length : tie.Need-same-length
+same-length c = search needs
+
+returns : tie.Need-returns
+returns c =
+    let s = c .before .before .before .before .before .before .before .before .before .before .args .s .now in
+    let k = c .before .before .before .before .before .before .before .before .before .before .args .key in
+    let e = finds-value s k (c .before .before .before .before .before .before .before .find-value .ensures) (c .before .before .before .before .before .i .given .1) in
+    let v = c .before .before .before .before .before .before .before .before .before .before .args .value in
+    let i = c .before .before .before .before .before .i .given .0 .0 in
+    changes s (e .0) (getMut k v) _ (withSlot i (holds k v) (read s)) _ (get-mut-is (read s) k _ (e .1) v)
+    (c .before .before .store-value .ensures ∙ ap (λ (x : ℕ). laid (withSlot i (holds x v) (read s)) s) (worded s k _ _ (e .1) .key))
 
 same-length-2 : tie.Need-same-length-2
 same-length-2 c = search needs
 
 returns-2 : tie.Need-returns-2
-returns-2 c = let w = worded (c .before .before .before .before .before .before .before .before .before .before .before .before .before .before .before .before .before .args .s .now) (c .before .before .before .before .before .before .before .before .before .p .given .0 .0) _ _ (entry-in (c .before .before .before .before .before .before .before .before .before .before .before .before .before .before .before .before .before .args .s .now) (sym (c .before .before .before .before .before .before .before .before .before .before .before .before .before .before .whole .ensures) ∙ c .before .before .before .before .before .before .before .before .before .before .before .before .before .if1 .taken) (c .before .before .before .before .before .before .before .before .before .before .before .before .before .before .before .before .before .args .key) (c .before .before .before .before .before .before .before .before .before .p .given .0 .0) (located (read (c .before .before .before .before .before .before .before .before .before .before .before .before .before .before .before .before .before .args .s .now)) (c .before .before .before .before .before .before .before .before .before .before .before .before .before .before .before .before .before .args .key) (c .before .before .before .before .before .before .before .before .before .p .given .0 .0) (sym (c .before .before .before .before .before .before .before .before .before .before .before .get-index .ensures) ∙ c .before .before .before .before .before .before .before .before .before .p .given .1))) (held-holds (slot (read (c .before .before .before .before .before .before .before .before .before .before .before .before .before .before .before .before .before .args .s .now)) (c .before .before .before .before .before .before .before .before .before .p .given .0 .0)) _ _ (sym (c .before .before .before .before .before .before .held-at .ensures) ∙ c .before .before .before .before .enum-told .given .1)) in
-    changes (c .before .before .before .before .before .before .before .before .before .before .before .before .before .before .before .before .before .args .s .now) (sym (c .before .before .before .before .before .before .before .before .before .before .before .before .before .before .whole .ensures) ∙ c .before .before .before .before .before .before .before .before .before .before .before .before .before .if1 .taken) (getMut (c .before .before .before .before .before .before .before .before .before .before .before .before .before .before .before .before .before .args .key) (c .before .before .before .before .before .before .before .before .before .before .before .before .before .before .before .before .before .args .value)) _ (withSlot (c .before .before .before .before .before .before .before .before .before .p .given .0 .0) (holds _ (c .before .before .before .before .before .before .before .before .before .before .before .before .before .before .before .before .before .args .value)) (read (c .before .before .before .before .before .before .before .before .before .before .before .before .before .before .before .before .before .args .s .now))) _ (get-mut-at (read (c .before .before .before .before .before .before .before .before .before .before .before .before .before .before .before .before .before .args .s .now)) (c .before .before .before .before .before .before .before .before .before .before .before .before .before .before .before .before .before .args .key) (c .before .before .before .before .before .before .before .before .before .p .given .0 .0) _ (holding (read (c .before .before .before .before .before .before .before .before .before .before .before .before .before .before .before .before .before .args .s .now)) (c .before .before .before .before .before .before .before .before .before .before .before .before .before .before .before .before .before .args .key) (c .before .before .before .before .before .before .before .before .before .p .given .0 .0) _ (located (read (c .before .before .before .before .before .before .before .before .before .before .before .before .before .before .before .before .before .args .s .now)) (c .before .before .before .before .before .before .before .before .before .before .before .before .before .before .before .before .before .args .key) (c .before .before .before .before .before .before .before .before .before .p .given .0 .0) (sym (c .before .before .before .before .before .before .before .before .before .before .before .get-index .ensures) ∙ c .before .before .before .before .before .before .before .before .before .p .given .1)) (held-holds (slot (read (c .before .before .before .before .before .before .before .before .before .before .before .before .before .before .before .before .before .args .s .now)) (c .before .before .before .before .before .before .before .before .before .p .given .0 .0)) _ _ (sym (c .before .before .before .before .before .before .held-at .ensures) ∙ c .before .before .before .before .enum-told .given .1))) (c .before .before .before .before .before .before .before .before .before .before .before .before .before .before .before .before .before .args .value)) (c .before .before .store-value .ensures ∙ ap (λ (k : ℕ). laid (withSlot (c .before .before .before .before .before .before .before .before .before .p .given .0 .0) (holds k (c .before .before .before .before .before .before .before .before .before .before .before .before .before .before .before .before .before .args .value)) (read (c .before .before .before .before .before .before .before .before .before .before .before .before .before .before .before .before .before .args .s .now))) (c .before .before .before .before .before .before .before .before .before .before .before .before .before .before .before .before .before .args .s .now)) (w .key))
+returns-2 c =
+    let s = c .before .before .before .before .before .args .s .now in
+    let k = c .before .before .before .before .before .args .key in
+    let e = finds-value s k (c .before .before .find-value .ensures) (c .enum-told .given .1) in
+    let v = c .before .before .before .before .before .args .value in
+    stays s (e .0) (getMut k v) (bytes-of s (c .before .before .before .before .slice-known .given)) _ (get-mut-is (read s) k _ (e .1 .1) v)
 
 same-length-3 : tie.Need-same-length-3
 same-length-3 c = search needs
 
 returns-3 : tie.Need-returns-3
-returns-3 c = stays (c .before .before .before .before .before .before .before .before .before .before .before .before .before .args .s .now) (sym (c .before .before .before .before .before .before .before .before .before .before .whole .ensures) ∙ c .before .before .before .before .before .before .before .before .before .if1 .taken) (bytes-of (c .before .before .before .before .before .before .before .before .before .before .before .before .before .args .s .now) (c .before .before .before .before .before .before .before .before .before .before .before .before .slice-known .given)) (getMut (c .before .before .before .before .before .before .before .before .before .before .before .before .before .args .key) (c .before .before .before .before .before .before .before .before .before .before .before .before .before .args .value)) _ (get-mut-at (read (c .before .before .before .before .before .before .before .before .before .before .before .before .before .args .s .now)) (c .before .before .before .before .before .before .before .before .before .before .before .before .before .args .key) (c .before .before .before .before .before .p .given .0 .0) _ (holding (read (c .before .before .before .before .before .before .before .before .before .before .before .before .before .args .s .now)) (c .before .before .before .before .before .before .before .before .before .before .before .before .before .args .key) (c .before .before .before .before .before .p .given .0 .0) _ (located (read (c .before .before .before .before .before .before .before .before .before .before .before .before .before .args .s .now)) (c .before .before .before .before .before .before .before .before .before .before .before .before .before .args .key) (c .before .before .before .before .before .p .given .0 .0) (sym (c .before .before .before .before .before .before .before .get-index .ensures) ∙ c .before .before .before .before .before .p .given .1)) (held-spent (slot (read (c .before .before .before .before .before .before .before .before .before .before .before .before .before .args .s .now)) (c .before .before .before .before .before .p .given .0 .0)) _ (sym (c .before .before .held-at .ensures) ∙ c .enum-told2 .given .1))) (c .before .before .before .before .before .before .before .before .before .before .before .before .before .args .value))
+returns-3 c =
+    let s = c .before .before .before .before .before .args .s .now in
+    let k = c .before .before .before .before .before .args .key in
+    let e = finds-value s k (c .before .before .find-value .ensures) (c .enum-told2 .given .1) in
+    let v = c .before .before .before .before .before .args .value in
+    stays s (e .0) (getMut k v) (bytes-of s (c .before .before .before .before .slice-known .given)) _ (get-mut-is (read s) k _ (e .1) v)
 
 same-length-4 : tie.Need-same-length-4
 same-length-4 c = search needs
 
 returns-4 : tie.Need-returns-4
-returns-4 c = stays (c .before .before .before .before .before .before .before .before .before .before .before .before .before .args .s .now) (sym (c .before .before .before .before .before .before .before .before .before .before .whole .ensures) ∙ c .before .before .before .before .before .before .before .before .before .if1 .taken) (bytes-of (c .before .before .before .before .before .before .before .before .before .before .before .before .before .args .s .now) (c .before .before .before .before .before .before .before .before .before .before .before .before .slice-known .given)) (getMut (c .before .before .before .before .before .before .before .before .before .before .before .before .before .args .key) (c .before .before .before .before .before .before .before .before .before .before .before .before .before .args .value)) _ (get-mut-at (read (c .before .before .before .before .before .before .before .before .before .before .before .before .before .args .s .now)) (c .before .before .before .before .before .before .before .before .before .before .before .before .before .args .key) (c .before .before .before .before .before .p .given .0 .0) _ (holding (read (c .before .before .before .before .before .before .before .before .before .before .before .before .before .args .s .now)) (c .before .before .before .before .before .before .before .before .before .before .before .before .before .args .key) (c .before .before .before .before .before .p .given .0 .0) _ (located (read (c .before .before .before .before .before .before .before .before .before .before .before .before .before .args .s .now)) (c .before .before .before .before .before .before .before .before .before .before .before .before .before .args .key) (c .before .before .before .before .before .p .given .0 .0) (sym (c .before .before .before .before .before .before .before .get-index .ensures) ∙ c .before .before .before .before .before .p .given .1)) (held-free (slot (read (c .before .before .before .before .before .before .before .before .before .before .before .before .before .args .s .now)) (c .before .before .before .before .before .p .given .0 .0)) (sym (c .before .before .held-at .ensures) ∙ c .enum-told3 .given .1))) (c .before .before .before .before .before .before .before .before .before .before .before .before .before .args .value))
-
-same-length-5 : tie.Need-same-length-5
-same-length-5 c = search needs
-
-returns-5 : tie.Need-returns-5
-returns-5 c = stays (c .before .before .before .before .before .before .before .before .args .s .now) (sym (c .before .before .before .before .before .whole .ensures) ∙ c .before .before .before .before .if1 .taken) (bytes-of (c .before .before .before .before .before .before .before .before .args .s .now) (c .before .before .before .before .before .before .before .slice-known .given)) (getMut (c .before .before .before .before .before .before .before .before .args .key) (c .before .before .before .before .before .before .before .before .args .value)) _ (get-mut-none (read (c .before .before .before .before .before .before .before .before .args .s .now)) (c .before .before .before .before .before .before .before .before .args .key) (absent (read (c .before .before .before .before .before .before .before .before .args .s .now)) (c .before .before .before .before .before .before .before .before .args .key) (sym (c .before .before .get-index .ensures) ∙ c .enum-told4 .given .1)) (c .before .before .before .before .before .before .before .before .args .value))
+returns-4 c =
+    let s = c .before .before .before .before .before .args .s .now in
+    let k = c .before .before .before .before .before .args .key in
+    let e = finds-value s k (c .before .before .find-value .ensures) (c .enum-told3 .given .1) in
+    let v = c .before .before .before .before .before .args .value in
+    unwhole (getMut k v) s e
 
 pub get-mut-spec : {M : Type 1} → statement M
 get-mut-spec =
     tie.close
     (tie.spec
-    whole-requires
-    same-length
-    returns
-    get-index-requires
-    enum-known-p
-    held-at-requires
-    enum-told
+    find-value-requires
+    enum-known-i
     store-value-requires
+    enum-told
     enum-told-2
     enum-told-3
-    enum-told-4
+    same-length
+    returns
     same-length-2
     returns-2
     same-length-3
     returns-3
     same-length-4
-    returns-4
-    same-length-5
-    returns-5)
+    returns-4)

@@ -9,23 +9,11 @@ use Rattle.index_queue.proofs.Calls.{unwhole, says, last-entry, lent-cl
 use Rattle.index_queue.proofs.back.Statement.{statement}
 use Rattle.index_queue.proofs.back.Tie as tie
 
-whole-requires : tie.Need-whole-requires
-whole-requires c κs = search needs
-
 returns : tie.Need-returns
 returns c = unwhole back (c .before .before .before .args .s .now) (sym (c .before .whole .ensures) ∙ c .if1 .left) .0
 
 lists-end-requires : tie.Need-lists-end-requires
 lists-end-requires c κs = sym (c .before .whole .ensures) ∙ c .if1 .taken
-
-sub-inner-back : tie.Need-sub-inner-back
-sub-inner-back c = search needs
-
-part-inner-back-start : tie.Need-part-inner-back-start
-part-inner-back-start c = search needs
-
-part-inner-back-end : tie.Need-part-inner-back-end
-part-inner-back-end c = search needs
 
 inner-back-requires : tie.Need-inner-back-requires
 inner-back-requires c κs = lent-class (c .before .before .before .before .before .args .s .now) (sym (c .before .before .before .whole .ensures) ∙ c .before .before .if1 .taken) _ (c .before .lists-end .ensures .0) 0 (omega arith)
@@ -44,14 +32,5 @@ returns-2 c =
 
 pub back-spec : {M : Type 1} → statement M
 back-spec =
-    tie.close
-    (tie.spec
-    whole-requires
-    returns
-    lists-end-requires
-    sub-inner-back
-    part-inner-back-start
-    part-inner-back-end
-    inner-back-requires
-    key-of-requires
-    returns-2)
+    tie.close (tie.spec (λ c κs. search needs) returns lists-end-requires (λ c. search needs) (λ c. search needs) (λ c. search needs) inner-back-requires
+    key-of-requires returns-2)

@@ -5,67 +5,31 @@ use Rattle.index_queue.proofs.Calls.{finds, unwhole, moved, unmoved, mo
 use Rattle.index_queue.proofs.enqueue_front.Statement.{statement}
 use Rattle.index_queue.proofs.enqueue_front.Tie as tie
 
-find-requires : tie.Need-find-requires
-find-requires c κs = search needs
-
-enum-known-i : tie.Need-enum-known-i
-enum-known-i c = search needs
-
 queue-front-requires : tie.Need-queue-front-requires
 queue-front-requires c κs =
-    let s = c .before .before .before .before .before .before .before .args .s .now in
-    let k = c .before .before .before .before .before .before .before .args .key in
-    let e = finds s k (c .before .before .before .before .find .ensures) (c .before .before .i .given .1) in
-    movable s k _ e
-
-enum-told : tie.Need-enum-told
-enum-told c = search needs
-
-enum-told-2 : tie.Need-enum-told-2
-enum-told-2 c = search needs
-
-same-length : tie.Need-same-length
-same-length c = search needs
+    let a = c .before .before .before .before .before .before .before .args in
+    let e = finds (a .s .now) (a .key) (c .before .before .before .before .find .ensures) (c .before .before .i .given .1) in
+    movable (a .s .now) (a .key) _ e
 
 returns : tie.Need-returns
 returns c =
-    let s = c .before .before .before .before .before .before .before .before .before .before .args .s .now in
-    let k = c .before .before .before .before .before .before .before .before .before .before .args .key in
-    let e = finds s k (c .before .before .before .before .before .before .before .find .ensures) (c .before .before .before .before .before .i .given .1) in
-    moved enqueueFront (movedFront 0) front-move s k _ _ e (c .before .before .queue-front .ensures)
-
-same-length-2 : tie.Need-same-length-2
-same-length-2 c = search needs
+    let a = c .before .before .before .before .before .before .before .before .before .before .args in
+    let e = finds (a .s .now) (a .key) (c .before .before .before .before .before .before .before .find .ensures) (c .before .before .before .before .before .i .given .1) in
+    moved enqueueFront (movedFront 0) front-move (a .s .now) (a .key) _ _ e (c .before .before .queue-front .ensures)
 
 returns-2 : tie.Need-returns-2
 returns-2 c =
-    let s = c .before .before .before .before .before .args .s .now in
-    let k = c .before .before .before .before .before .args .key in
-    let e = finds s k (c .before .before .find .ensures) (c .enum-told .given .1) in
-    unmoved enqueueFront (movedFront 0) front-move s k e
-
-same-length-3 : tie.Need-same-length-3
-same-length-3 c = search needs
+    let a = c .before .before .before .before .before .args in
+    let e = finds (a .s .now) (a .key) (c .before .before .find .ensures) (c .enum-told .given .1) in
+    unmoved enqueueFront (movedFront 0) front-move (a .s .now) (a .key) e
 
 returns-3 : tie.Need-returns-3
 returns-3 c =
-    let s = c .before .before .before .before .before .args .s .now in
-    let k = c .before .before .before .before .before .args .key in
-    let e = finds s k (c .before .before .find .ensures) (c .enum-told2 .given .1) in
-    unwhole (enqueueFront k) s e
+    let a = c .before .before .before .before .before .args in
+    let e = finds (a .s .now) (a .key) (c .before .before .find .ensures) (c .enum-told2 .given .1) in
+    unwhole (enqueueFront (a .key)) (a .s .now) e
 
 pub enqueue-front-spec : {M : Type 1} → statement M
 enqueue-front-spec =
-    tie.close
-    (tie.spec
-    find-requires
-    enum-known-i
-    queue-front-requires
-    enum-told
-    enum-told-2
-    same-length
-    returns
-    same-length-2
-    returns-2
-    same-length-3
-    returns-3)
+    tie.close (tie.spec (λ c κs. search needs) (λ c. search needs) queue-front-requires (λ c. search needs) (λ c. search needs) (λ c. search needs)
+    returns (λ c. search needs) returns-2 (λ c. search needs) returns-3)

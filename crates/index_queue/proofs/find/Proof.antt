@@ -5,20 +5,11 @@ use Rattle.index_queue.proofs.Calls.{located, absent}
 use Rattle.index_queue.proofs.find.Statement.{statement}
 use Rattle.index_queue.proofs.find.Tie as tie
 
-whole-requires : tie.Need-whole-requires
-whole-requires c κs = search needs
-
 returns : tie.Need-returns
 returns c = sym (c .before .whole .ensures) ∙ c .if1 .left
 
 get-index-requires : tie.Need-get-index-requires
 get-index-requires c κs = sym (c .before .whole .ensures) ∙ c .if1 .taken
-
-enum-known-i : tie.Need-enum-known-i
-enum-known-i c = search needs
-
-enum-told : tie.Need-enum-told
-enum-told c = search needs
 
 returns-2 : tie.Need-returns-2
 returns-2 c = (sym (c .before .before .before .before .before .whole .ensures) ∙ c .before .before .before .before .if1 .taken, located (read (c .before .before .before .before .before .before .before .args .s .now)) (c .before .before .before .before .before .before .before .args .key) _ (sym (c .before .before .before .get-index .ensures) ∙ c .before .i .given .1))
@@ -28,5 +19,4 @@ returns-3 c = (sym (c .before .before .before .before .whole .ensures) ∙ c .be
 
 pub find-spec : {M : Type 1} → statement M
 find-spec =
-    tie.close
-    (tie.spec whole-requires returns get-index-requires enum-known-i enum-told returns-2 returns-3)
+    tie.close (tie.spec (λ c κs. search needs) returns get-index-requires (λ c. search needs) (λ c. search needs) returns-2 returns-3)

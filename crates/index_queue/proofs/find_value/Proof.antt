@@ -6,58 +6,33 @@ use Rattle.index_queue.proofs.Calls.{finds, inside, has-value, has-spen
 use Rattle.index_queue.proofs.find_value.Statement.{statement}
 use Rattle.index_queue.proofs.find_value.Tie as tie
 
-find-requires : tie.Need-find-requires
-find-requires c κs = search needs
-
-enum-known-i : tie.Need-enum-known-i
-enum-known-i c = search needs
-
 held-at-requires : tie.Need-held-at-requires
 held-at-requires c κs =
-    let s = c .before .before .before .before .before .args .s .now in
-    let k = c .before .before .before .before .before .args .key in
+    let a = c .before .before .before .before .before .args in
     let i = c .before .i .given .0 .0 in
-    let e = finds s k (c .before .before .before .find .ensures) (c .before .i .given .1) in
-    (e .0, inside s k i (slot (read s) i) (e .1))
-
-enum-known-v : tie.Need-enum-known-v
-enum-known-v c = search needs
-
-enum-told : tie.Need-enum-told
-enum-told c = search needs
-
-enum-told-2 : tie.Need-enum-told-2
-enum-told-2 c = search needs
-
-enum-told-3 : tie.Need-enum-told-3
-enum-told-3 c = search needs
-
-enum-told-4 : tie.Need-enum-told-4
-enum-told-4 c = search needs
+    let e = finds (a .s .now) (a .key) (c .before .before .before .find .ensures) (c .before .i .given .1) in
+    (e .0, inside (a .s .now) (a .key) i (slot (read (a .s .now)) i) (e .1))
 
 returns : tie.Need-returns
 returns c =
-    let s = c .before .before .before .before .before .before .before .before .before .args .s .now in
-    let k = c .before .before .before .before .before .before .before .before .before .args .key in
+    let a = c .before .before .before .before .before .before .before .before .before .args in
     let i = c .before .before .before .before .before .i .given .0 .0 in
-    let e = finds s k (c .before .before .before .before .before .before .before .find .ensures) (c .before .before .before .before .before .i .given .1) in
-    (e .0, has-value s k i (slot (read s) i) (e .1) _ _ (sym (c .before .before .before .held-at .ensures) ∙ c .before .v .given .1))
+    let e = finds (a .s .now) (a .key) (c .before .before .before .before .before .before .before .find .ensures) (c .before .before .before .before .before .i .given .1) in
+    (e .0, has-value (a .s .now) (a .key) i (slot (read (a .s .now)) i) (e .1) _ _ (sym (c .before .before .before .held-at .ensures) ∙ c .before .v .given .1))
 
 returns-2 : tie.Need-returns-2
 returns-2 c =
-    let s = c .before .before .before .before .before .before .before .before .args .s .now in
-    let k = c .before .before .before .before .before .before .before .before .args .key in
+    let a = c .before .before .before .before .before .before .before .before .args in
     let i = c .before .before .before .before .i .given .0 .0 in
-    let e = finds s k (c .before .before .before .before .before .before .find .ensures) (c .before .before .before .before .i .given .1) in
-    (e .0, (i, has-spent s k i (slot (read s) i) (e .1) _ (sym (c .before .before .held-at .ensures) ∙ c .enum-told .given .1)))
+    let e = finds (a .s .now) (a .key) (c .before .before .before .before .before .before .find .ensures) (c .before .before .before .before .i .given .1) in
+    (e .0, (i, has-spent (a .s .now) (a .key) i (slot (read (a .s .now)) i) (e .1) _ (sym (c .before .before .held-at .ensures) ∙ c .enum-told .given .1)))
 
 returns-3 : tie.Need-returns-3
 returns-3 c =
-    let s = c .before .before .before .before .before .before .before .before .args .s .now in
-    let k = c .before .before .before .before .before .before .before .before .args .key in
+    let a = c .before .before .before .before .before .before .before .before .args in
     let i = c .before .before .before .before .i .given .0 .0 in
-    let e = finds s k (c .before .before .before .before .before .before .find .ensures) (c .before .before .before .before .i .given .1) in
-    has-key s k i (slot (read s) i) (e .1) (sym (c .before .before .held-at .ensures) ∙ c .enum-told2 .given .1)
+    let e = finds (a .s .now) (a .key) (c .before .before .before .before .before .before .find .ensures) (c .before .before .before .before .i .given .1) in
+    has-key (a .s .now) (a .key) i (slot (read (a .s .now)) i) (e .1) (sym (c .before .before .held-at .ensures) ∙ c .enum-told2 .given .1)
 
 returns-4 : tie.Need-returns-4
 returns-4 c = finds (c .before .before .before .before .args .s .now) (c .before .before .before .before .args .key) (c .before .before .find .ensures) (c .enum-told3 .given .1)
@@ -67,18 +42,5 @@ returns-5 c = finds (c .before .before .before .before .args .s .now) (c .before
 
 pub find-value-spec : {M : Type 1} → statement M
 find-value-spec =
-    tie.close
-    (tie.spec
-    find-requires
-    enum-known-i
-    held-at-requires
-    enum-known-v
-    enum-told
-    enum-told-2
-    enum-told-3
-    enum-told-4
-    returns
-    returns-2
-    returns-3
-    returns-4
-    returns-5)
+    tie.close (tie.spec (λ c κs. search needs) (λ c. search needs) held-at-requires (λ c. search needs) (λ c. search needs) (λ c. search needs)
+    (λ c. search needs) (λ c. search needs) returns returns-2 returns-3 returns-4 returns-5)

@@ -5,18 +5,6 @@ use Rattle.index_queue.proofs.Calls.{lent-class, lent-row}
 use Rattle.index_queue.proofs.first_of.Statement.{statement}
 use Rattle.index_queue.proofs.first_of.Tie as tie
 
-lists-end-requires : tie.Need-lists-end-requires
-lists-end-requires c κs = search needs
-
-sub-inner-front : tie.Need-sub-inner-front
-sub-inner-front c = search needs
-
-part-inner-front-start : tie.Need-part-inner-front-start
-part-inner-front-start c = search needs
-
-part-inner-front-end : tie.Need-part-inner-front-end
-part-inner-front-end c = search needs
-
 inner-front-requires : tie.Need-inner-front-requires
 inner-front-requires c κs = lent-class (c .before .before .before .args .s .now) (c .before .before .before .pre .0) _ (c .before .lists-end .ensures .0) (c .before .before .before .args .class) (c .before .before .before .pre .1)
 
@@ -25,11 +13,4 @@ returns c = c .inner-front .ensures ∙ ap first (lent-row (c .before .before .b
 
 pub first-of-spec : {M : Type 1} → statement M
 first-of-spec =
-    tie.close
-    (tie.spec
-    lists-end-requires
-    sub-inner-front
-    part-inner-front-start
-    part-inner-front-end
-    inner-front-requires
-    returns)
+    tie.close (tie.spec (λ c κs. search needs) (λ c. search needs) (λ c. search needs) (λ c. search needs) inner-front-requires returns)

@@ -8,9 +8,6 @@ use Rattle.index_queue.proofs.Calls.{unwhole, says, first-entry, front-
 use Rattle.index_queue.proofs.front.Statement.{statement}
 use Rattle.index_queue.proofs.front.Tie as tie
 
-whole-requires : tie.Need-whole-requires
-whole-requires c κs = search needs
-
 returns : tie.Need-returns
 returns c = unwhole front (c .before .before .before .args .s .now) (sym (c .before .whole .ensures) ∙ c .if1 .left) .0
 
@@ -30,4 +27,4 @@ returns-2 c =
 
 pub front-spec : {M : Type 1} → statement M
 front-spec =
-    tie.close (tie.spec whole-requires returns first-of-requires key-of-requires returns-2)
+    tie.close (tie.spec (λ c κs. search needs) returns first-of-requires key-of-requires returns-2)

@@ -7,88 +7,40 @@ use Rattle.index_queue.proofs.Calls.{finds-value, within, worded, unwho
 use Rattle.index_queue.proofs.insert.Statement.{statement}
 use Rattle.index_queue.proofs.insert.Tie as tie
 
-find-value-requires : tie.Need-find-value-requires
-find-value-requires c κs = search needs
-
-enum-known-i : tie.Need-enum-known-i
-enum-known-i c = search needs
-
 spend-requires : tie.Need-spend-requires
 spend-requires c κs =
-    let s = c .before .before .before .before .before .before .before .args .s .now in
-    let k = c .before .before .before .before .before .before .before .args .key in
-    let e = finds-value s k (c .before .before .before .before .find-value .ensures) (c .before .before .i .given .1) in
-    let w = worded s k _ _ (e .1) in
+    let a = c .before .before .before .before .before .before .before .args in
+    let e = finds-value (a .s .now) (a .key) (c .before .before .before .before .find-value .ensures) (c .before .before .i .given .1) in
+    let w = worded (a .s .now) (a .key) _ _ (e .1) in
     (e .0, (w .inside, (w .key, w .small)))
-
-enum-told : tie.Need-enum-told
-enum-told c = search needs
-
-enum-told-2 : tie.Need-enum-told-2
-enum-told-2 c = search needs
 
 insert-new-requires : tie.Need-insert-new-requires
 insert-new-requires c κs = finds-value (c .before .before .before .before .before .before .args .s .now) (c .before .before .before .before .before .before .args .key) (c .before .before .before .find-value .ensures) (c .before .enum-told2 .given .1)
 
-enum-told-3 : tie.Need-enum-told-3
-enum-told-3 c = search needs
-
-same-length : tie.Need-same-length
-same-length c = search needs
-
 returns : tie.Need-returns
 returns c =
-    let s = c .before .before .before .before .before .before .before .before .before .before .args .s .now in
-    let k = c .before .before .before .before .before .before .before .before .before .before .args .key in
-    let e = finds-value s k (c .before .before .before .before .before .before .before .find-value .ensures) (c .before .before .before .before .before .i .given .1) in
-    let v = c .before .before .before .before .before .before .before .before .before .before .args .value in
+    let a = c .before .before .before .before .before .before .before .before .before .before .args in
+    let e = finds-value (a .s .now) (a .key) (c .before .before .before .before .before .before .before .find-value .ensures) (c .before .before .before .before .before .i .given .1) in
     let i = c .before .before .before .before .before .i .given .0 .0 in
-    changes s (e .0) (insert k v) _ (withSlot i (spent k) (read s)) _ (insert-is (read s) k _ (e .1) v (within s k i _ (e .1) (e .0))) (c .before .before .spend .ensures)
-
-same-length-2 : tie.Need-same-length-2
-same-length-2 c = search needs
+    changes (a .s .now) (e .0) (insert (a .key) (a .value)) _ (withSlot i (spent (a .key)) (read (a .s .now))) _ (insert-is (read (a .s .now)) (a .key) _ (e .1) (a .value) (within (a .s .now) (a .key) i _ (e .1) (e .0))) (c .before .before .spend .ensures)
 
 returns-2 : tie.Need-returns-2
 returns-2 c =
-    let s = c .before .before .before .before .before .args .s .now in
-    let k = c .before .before .before .before .before .args .key in
-    let e = finds-value s k (c .before .before .find-value .ensures) (c .enum-told .given .1) in
-    let v = c .before .before .before .before .before .args .value in
-    turned-away s (e .0) (insert k v) (Refused 16) (insert-is (read s) k _ (e .1 .1) v (within s k (e .1 .0) _ (e .1 .1) (e .0)))
-
-same-length-3 : tie.Need-same-length-3
-same-length-3 c = search needs
+    let a = c .before .before .before .before .before .args in
+    let e = finds-value (a .s .now) (a .key) (c .before .before .find-value .ensures) (c .enum-told .given .1) in
+    turned-away (a .s .now) (e .0) (insert (a .key) (a .value)) (Refused 16) (insert-is (read (a .s .now)) (a .key) _ (e .1 .1) (a .value) (within (a .s .now) (a .key) (e .1 .0) _ (e .1 .1) (e .0)))
 
 returns-3 : tie.Need-returns-3
 returns-3 c = c .before .before .insert-new .ensures
 
-same-length-4 : tie.Need-same-length-4
-same-length-4 c = search needs
-
 returns-4 : tie.Need-returns-4
 returns-4 c =
-    let s = c .before .before .before .before .before .args .s .now in
-    let k = c .before .before .before .before .before .args .key in
-    let e = finds-value s k (c .before .before .find-value .ensures) (c .enum-told3 .given .1) in
-    let v = c .before .before .before .before .before .args .value in
-    unwhole (insert k v) s e
+    let a = c .before .before .before .before .before .args in
+    let e = finds-value (a .s .now) (a .key) (c .before .before .find-value .ensures) (c .enum-told3 .given .1) in
+    unwhole (insert (a .key) (a .value)) (a .s .now) e
 
 pub insert-spec : {M : Type 1} → statement M
 insert-spec =
-    tie.close
-    (tie.spec
-    find-value-requires
-    enum-known-i
-    spend-requires
-    enum-told
-    enum-told-2
-    insert-new-requires
-    enum-told-3
-    same-length
-    returns
-    same-length-2
-    returns-2
-    same-length-3
-    returns-3
-    same-length-4
+    tie.close (tie.spec (λ c κs. search needs) (λ c. search needs) spend-requires (λ c. search needs) (λ c. search needs) insert-new-requires
+    (λ c. search needs) (λ c. search needs) returns (λ c. search needs) returns-2 (λ c. search needs) returns-3 (λ c. search needs)
     returns-4)

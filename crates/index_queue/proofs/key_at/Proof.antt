@@ -7,18 +7,6 @@ use Rattle.index_queue.proofs.Calls.{held-holds, held-spent, held-free}
 use Rattle.index_queue.proofs.key_at.Statement.{statement}
 use Rattle.index_queue.proofs.key_at.Tie as tie
 
-held-at-requires : tie.Need-held-at-requires
-held-at-requires c κs = search needs
-
-enum-known-k : tie.Need-enum-known-k
-enum-known-k c = search needs
-
-enum-known-k-2 : tie.Need-enum-known-k-2
-enum-known-k-2 c = search needs
-
-enum-told : tie.Need-enum-told
-enum-told c = search needs
-
 returns : tie.Need-returns
 returns c = sym (ap keyIn (held-holds (slot (read (c .before .before .before .before .before .args .s .now)) (c .before .before .before .before .before .args .i)) _ _ (sym (c .before .before .before .held-at .ensures) ∙ c .before .k .given .1)))
 
@@ -30,5 +18,4 @@ returns-3 c = sym (ap keyIn (held-free (slot (read (c .before .before .before .b
 
 pub key-at-spec : {M : Type 1} → statement M
 key-at-spec =
-    tie.close
-    (tie.spec held-at-requires enum-known-k enum-known-k-2 enum-told returns returns-2 returns-3)
+    tie.close (tie.spec (λ c κs. search needs) (λ c. search needs) (λ c. search needs) (λ c. search needs) returns returns-2 returns-3)

@@ -9,85 +9,39 @@ use Rattle.index_queue.proofs.Calls.{finds-value, worded, unwhole, turn
 use Rattle.index_queue.proofs.remove.Statement.{statement}
 use Rattle.index_queue.proofs.remove.Tie as tie
 
-find-value-requires : tie.Need-find-value-requires
-find-value-requires c κs = search needs
-
-enum-known-i : tie.Need-enum-known-i
-enum-known-i c = search needs
-
 free-entry-requires : tie.Need-free-entry-requires
 free-entry-requires c κs =
-    let s = c .before .before .before .before .before .before .before .args .s .now in
-    let k = c .before .before .before .before .before .before .before .args .key in
-    let e = finds-value s k (c .before .before .before .before .find-value .ensures) (c .before .before .i .given .1) in
-    let w = worded s k _ _ (e .1) in
+    let a = c .before .before .before .before .before .before .before .args in
+    let e = finds-value (a .s .now) (a .key) (c .before .before .before .before .find-value .ensures) (c .before .before .i .given .1) in
+    let w = worded (a .s .now) (a .key) _ _ (e .1) in
     (e .0, (w .inside, (w .key, w .small)))
-
-enum-told : tie.Need-enum-told
-enum-told c = search needs
-
-enum-told-2 : tie.Need-enum-told-2
-enum-told-2 c = search needs
-
-enum-told-3 : tie.Need-enum-told-3
-enum-told-3 c = search needs
-
-same-length : tie.Need-same-length
-same-length c = search needs
 
 returns : tie.Need-returns
 returns c =
-    let s = c .before .before .before .before .before .before .before .before .before .before .args .s .now in
-    let k = c .before .before .before .before .before .before .before .before .before .before .args .key in
-    let e = finds-value s k (c .before .before .before .before .before .before .before .find-value .ensures) (c .before .before .before .before .before .i .given .1) in
+    let a = c .before .before .before .before .before .before .before .before .before .before .args in
+    let e = finds-value (a .s .now) (a .key) (c .before .before .before .before .before .before .before .find-value .ensures) (c .before .before .before .before .before .i .given .1) in
     let i = c .before .before .before .before .before .i .given .0 .0 in
-    changes s (e .0) (remove k) _ (changed i free (movedBack 1 i (read s .lists)) (read s)) _ (remove-is (read s) k _ (e .1)) (c .before .before .free-entry .ensures)
-
-same-length-2 : tie.Need-same-length-2
-same-length-2 c = search needs
+    changes (a .s .now) (e .0) (remove (a .key)) _ (changed i free (movedBack 1 i (read (a .s .now) .lists)) (read (a .s .now))) _ (remove-is (read (a .s .now)) (a .key) _ (e .1)) (c .before .before .free-entry .ensures)
 
 returns-2 : tie.Need-returns-2
 returns-2 c =
-    let s = c .before .before .before .before .before .args .s .now in
-    let k = c .before .before .before .before .before .args .key in
-    let e = finds-value s k (c .before .before .find-value .ensures) (c .enum-told .given .1) in
-    turned-away s (e .0) (remove k) (Refused 16) (remove-is (read s) k _ (e .1 .1))
-
-same-length-3 : tie.Need-same-length-3
-same-length-3 c = search needs
+    let a = c .before .before .before .before .before .args in
+    let e = finds-value (a .s .now) (a .key) (c .before .before .find-value .ensures) (c .enum-told .given .1) in
+    turned-away (a .s .now) (e .0) (remove (a .key)) (Refused 16) (remove-is (read (a .s .now)) (a .key) _ (e .1 .1))
 
 returns-3 : tie.Need-returns-3
 returns-3 c =
-    let s = c .before .before .before .before .before .args .s .now in
-    let k = c .before .before .before .before .before .args .key in
-    let e = finds-value s k (c .before .before .find-value .ensures) (c .enum-told2 .given .1) in
-    stays s (e .0) (remove k) (bytes-of s (c .before .before .before .before .slice-known .given)) _ (remove-is (read s) k _ (e .1))
-
-same-length-4 : tie.Need-same-length-4
-same-length-4 c = search needs
+    let a = c .before .before .before .before .before .args in
+    let e = finds-value (a .s .now) (a .key) (c .before .before .find-value .ensures) (c .enum-told2 .given .1) in
+    stays (a .s .now) (e .0) (remove (a .key)) (bytes-of (a .s .now) (c .before .before .before .before .slice-known .given)) _ (remove-is (read (a .s .now)) (a .key) _ (e .1))
 
 returns-4 : tie.Need-returns-4
 returns-4 c =
-    let s = c .before .before .before .before .before .args .s .now in
-    let k = c .before .before .before .before .before .args .key in
-    let e = finds-value s k (c .before .before .find-value .ensures) (c .enum-told3 .given .1) in
-    unwhole (remove k) s e
+    let a = c .before .before .before .before .before .args in
+    let e = finds-value (a .s .now) (a .key) (c .before .before .find-value .ensures) (c .enum-told3 .given .1) in
+    unwhole (remove (a .key)) (a .s .now) e
 
 pub remove-spec : {M : Type 1} → statement M
 remove-spec =
-    tie.close
-    (tie.spec
-    find-value-requires
-    enum-known-i
-    free-entry-requires
-    enum-told
-    enum-told-2
-    enum-told-3
-    same-length
-    returns
-    same-length-2
-    returns-2
-    same-length-3
-    returns-3
-    same-length-4
-    returns-4)
+    tie.close (tie.spec (λ c κs. search needs) (λ c. search needs) free-entry-requires (λ c. search needs) (λ c. search needs) (λ c. search needs)
+    (λ c. search needs) returns (λ c. search needs) returns-2 (λ c. search needs) returns-3 (λ c. search needs) returns-4)

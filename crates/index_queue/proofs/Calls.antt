@@ -26,7 +26,7 @@ use Rattle.index_entries.specs.declared.look.Place.the-variants.{At, Nowhere}
 use Rattle.index_entries.specs.declared.look.Held.the-variants as held-is
 use Rattle.index_entries.proofs.Find.{Looks, looks, key-not-free}
 use Rattle.index_entries.proofs.Facts.{facts-of, owner, slot-in, slots-length, by-word, read-valid, laid-read}
-use Rattle.index_entries.proofs.Acts.{lent-part, lent-whole}
+use Rattle.index_entries.proofs.Acts.{lent-part}
 use Rattle.index_queue.specs.Calls.{isAt, contains, valueIn, get, storedIn, getMut, insertNew, insertIn, insert, removeIn, remove, keyAt, front, back, queueIn, enqueueFront, enqueueBack, dequeue, opening, on, openedBytes}
 use Rattle.index_queue.specs.Inner.{Finds, FindsValue, Below}
 use Rattle.index_queue.specs.declared.Found as place
@@ -231,16 +231,9 @@ module _ (s : List ℕ) (y : Bytes s) (h : wholeB s ≡ true) where
       let w = first-of (row (read s .lists) 1) i (sym q) in
       r .listed-free i (subst (λ (x : List ℕ). 0 < count i x) (sym (w .1)) (in-count i (i ∷ (w .0)) (inl refl)))
 
--- the lists that the code lends: from byte 2 to byte e
-module _ (s : List ℕ) (h : wholeB s ≡ true) (e : ℕ) (q : e ≡ 8 + 2 * entries s) (c : ℕ) where
-  cut : e - 2 ≡ 6 + 2 * entries s
-  cut = omega (arith, q)
-
-  pub lent-class : c < 2 → (nodes.wholeB (take (e - 2) (drop 2 s)) ≡ true) × (c < nodes.classes (take (e - 2) (drop 2 s)))
-  lent-class l = let w = lent-whole s h (e - 2) cut in (w .0, omega (arith, w .1 .0))
-
-  pub lent-row : row (nodes.read (take (e - 2) (drop 2 s))) c ≡ row (read s .lists) c
-  lent-row = ap (λ (x : List ℕ). row (nodes.read x) c) (lent-part s h (e - 2) cut)
+-- a list that the code lends
+pub lent-row : (s : List ℕ) → wholeB s ≡ true → (e : ℕ) → e ≡ 8 + 2 * entries s → (c : ℕ) → row (nodes.read (take (e - 2) (drop 2 s))) c ≡ row (read s .lists) c
+lent-row s h e q c = ap (λ (x : List ℕ). row (nodes.read x) c) (lent-part s h e q)
 
 -- ---- a key that has no entry: a free entry takes it; or none is free
 

@@ -12,6 +12,7 @@ use index_entries::look::Held;
 use index_entries::look::Place;
 use index_entries::look::get_index;
 use index_entries::look::held_at;
+use index_entries::look::lists_end;
 use index_entries::look::word;
 use index_whole::whole;
 use multi_cycle_list::inner::MaybeEntry;
@@ -19,7 +20,7 @@ use multi_cycle_list::inner::inner_back;
 use multi_cycle_list::inner::inner_front;
 ghost use mathlib.Core.Path.{_≡_};
 ghost use mathlib.Core.Bool.{true};
-ghost use Prim.Native.Nat.{_+_, _*_, _<_, _≤_};
+ghost use Prim.Native.Nat.{_<_};
 ghost use lib.ListN.{length};
 ghost use Rattle.state.specs.Result.{answer};
 ghost use Rattle.multi_cycle_list.specs.Lists.{first, row};
@@ -133,14 +134,6 @@ pub fn get_mut(s: &mut [u8], key: u16, value: u32) -> Answer
         FoundValue::Nowhere => Answer::Holds(false),
         FoundValue::NotWhole => Answer::Refused(1),
     }
-}
-
-// Where the lists end, which begin at byte 2.
-fn lists_end(s: &[u8]) -> usize
-    requires { ⌜ wholeB (now s) ≡ true ⌝ }
-    ensures { λ r. ⌜ (r ≡ 8 + 2 * entries (now (s .entry))) × (r ≤ length (now (s .entry))) ⌝ }
-{
-    8 + 2 * (s[3] as usize)
 }
 
 // The first entry of the queue, which is class 0, or of the free ones, class 1.

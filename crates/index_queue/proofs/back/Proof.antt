@@ -3,9 +3,9 @@ use native.Mathlib.Omega.{arith}
 use mathlib.Core.Path.{sym, ap, _∙_}
 use Rattle.multi_cycle_list.specs.Lists.{last}
 use Rattle.index_entries.specs.Bytes.{read}
-use Rattle.index_entries.proofs.Acts.{bytes-of}
+use Rattle.index_entries.proofs.Acts.{bytes-of, lent-class}
 use Rattle.index_queue.specs.Calls.{back}
-use Rattle.index_queue.proofs.Calls.{unwhole, says, last-entry, lent-class, lent-row, back-is}
+use Rattle.index_queue.proofs.Calls.{unwhole, says, last-entry, lent-row, back-is}
 use Rattle.index_queue.proofs.back.Statement.{statement}
 use Rattle.index_queue.proofs.back.Tie as tie
 

@@ -1,7 +1,8 @@
 use borrow.Author.Needs.{needs}
 use mathlib.Core.Path.{ap, _∙_}
 use Rattle.multi_cycle_list.specs.Lists.{first}
-use Rattle.index_queue.proofs.Calls.{lent-class, lent-row}
+use Rattle.index_entries.proofs.Acts.{lent-class}
+use Rattle.index_queue.proofs.Calls.{lent-row}
 use Rattle.index_queue.proofs.first_of.Statement.{statement}
 use Rattle.index_queue.proofs.first_of.Tie as tie
 

@@ -1,9 +1,9 @@
 use native.Mathlib.Omega.{arith}
 use mathlib.Core.Path.{refl}
 use Rattle.state.proofs.Tests.{byte-fits}
 use Rattle.index_entries.proofs.Facts.{facts-of}
-use Rattle.index_queue.proofs.lists_end.Statement.{statement}
-use Rattle.index_queue.proofs.lists_end.Tie as tie
+use Rattle.index_entries.proofs.look.lists_end.Statement.{statement}
+use Rattle.index_entries.proofs.look.lists_end.Tie as tie
 
 shared-slice-read-result : tie.Need-shared-slice-read-result
 shared-slice-read-result c = let f = facts-of (c .before .args .s .now) (c .before .pre) in omega (arith, f .len)

@@ -328,21 +328,27 @@ module _ (s : List ℕ) (y : Bytes s) (h : wholeB s ≡ true) (i : ℕ) (hi : i 
 
 -- ---- the list queue as the code lends it
 
-module _ (s : List ℕ) (h : wholeB s ≡ true) (c : ℕ) (q : c ≡ 6 + 2 * entries s) where
-  pub lent-part : take c (drop 2 s) ≡ listPart s
-  lent-part = ap (λ (z : ℕ). take z (drop 2 s)) q
+module _ (s : List ℕ) (h : wholeB s ≡ true) (e : ℕ) (q : e ≡ 8 + 2 * entries s) where
+  cut : e - 2 ≡ 6 + 2 * entries s
+  cut = omega (arith, q)
 
-  pub lent-whole : (nodes.wholeB (take c (drop 2 s)) ≡ true) × ((nodes.classes (take c (drop 2 s)) ≡ 2) × (nodes.entries (take c (drop 2 s)) ≡ entries s))
-  lent-whole =
-      let f = facts-of s h in
-      rw lent-part (f .lists, (f .two, part-entries s))
+  pub lent-part : take (e - 2) (drop 2 s) ≡ listPart s
+  lent-part = ap (λ (z : ℕ). take z (drop 2 s)) cut
+
+  -- a class c below 2
+  pub lent-class : (c : ℕ) → c < 2 → (nodes.wholeB (take (e - 2) (drop 2 s)) ≡ true) × (c < nodes.classes (take (e - 2) (drop 2 s)))
+  lent-class c l = let f = facts-of s h in rw lent-part (f .lists, omega (arith, f .two))
+
+  -- and an entry
+  pub lent-entry : (i : ℕ) → i < entries s → i < nodes.entries (take (e - 2) (drop 2 s))
+  lent-entry i l = rw lent-part (omega (arith, part-entries s))
 
   -- what the lent part becomes
-  pub put-list : (g : Lists → Lists) (p : List ℕ) → p ≡ lists.laid (g (nodes.read (take c (drop 2 s)))) → take 2 s ++ (p ++ drop c (drop 2 s)) ≡ withList s (g (read s .lists))
+  pub put-list : (g : Lists → Lists) (p : List ℕ) → p ≡ lists.laid (g (nodes.read (take (e - 2) (drop 2 s)))) → take 2 s ++ (p ++ drop (e - 2) (drop 2 s)) ≡ withList s (g (read s .lists))
   unfolding withList
-  put-list g p e =
-      ap (λ (z : ℕ). take 2 s ++ (p ++ drop z (drop 2 s))) q
-      ∙ ap (λ (z : List ℕ). take 2 s ++ (z ++ drop (6 + 2 * entries s) (drop 2 s))) (e ∙ ap (λ (z : List ℕ). lists.laid (g (nodes.read z))) lent-part)
+  put-list g p w =
+      ap (λ (z : ℕ). take 2 s ++ (p ++ drop z (drop 2 s))) cut
+      ∙ ap (λ (z : List ℕ). take 2 s ++ (z ++ drop (6 + 2 * entries s) (drop 2 s))) (w ∙ ap (λ (z : List ℕ). lists.laid (g (nodes.read z))) lent-part)
 
 pub bytes-of : (s : List ℕ) → ((i : ℕ) → Fits w8 (getD s i 0)) → Bytes s
 bytes-of s g i = omega (arith, g i)

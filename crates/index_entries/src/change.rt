@@ -1,4 +1,5 @@
 // The changes: each leaves the bytes of the changed meaning.
+use crate::look::lists_end;
 use multi_cycle_list::inner::inner_move_back;
 use multi_cycle_list::inner::inner_move_front;
 use multi_cycle_list::inner::inner_open;
@@ -39,8 +40,7 @@ fn list_remove(s: &mut [u8], i: usize)
     requires { ⌜ (wholeB (now s) ≡ true) × (i < entries (now s)) ⌝ }
     ensures { λ _. ⌜ now (s .exit) ≡ withList (now (s .entry)) (without-entry i (read (now (s .entry)) .lists)) ⌝ }
 {
-    let n = s[3] as usize;
-    let e = 8 + 2 * n;
+    let e = lists_end(s);
     inner_remove(&mut s[2..e], i);
 }
 
@@ -48,8 +48,7 @@ fn list_front(s: &mut [u8], i: usize)
     requires { ⌜ (wholeB (now s) ≡ true) × (i < entries (now s)) ⌝ }
     ensures { λ _. ⌜ now (s .exit) ≡ withList (now (s .entry)) (movedFront 0 i (read (now (s .entry)) .lists)) ⌝ }
 {
-    let n = s[3] as usize;
-    let e = 8 + 2 * n;
+    let e = lists_end(s);
     inner_move_front(&mut s[2..e], 0, i);
 }
 
@@ -57,8 +56,7 @@ fn list_back(s: &mut [u8], class: usize, i: usize)
     requires { ⌜ (wholeB (now s) ≡ true) × ((class < 2) × (i < entries (now s))) ⌝ }
     ensures { λ _. ⌜ now (s .exit) ≡ withList (now (s .entry)) (movedBack class i (read (now (s .entry)) .lists)) ⌝ }
 {
-    let n = s[3] as usize;
-    let e = 8 + 2 * n;
+    let e = lists_end(s);
     inner_move_back(&mut s[2..e], class, i);
 }
 

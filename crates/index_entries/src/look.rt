@@ -1,7 +1,7 @@
 // Looking up a key and an entry.
 ghost use mathlib.Core.Path.{_≡_};
 ghost use mathlib.Core.Bool.{true};
-ghost use Prim.Native.Nat.{_+_, _<_};
+ghost use Prim.Native.Nat.{_+_, _*_, _<_, _≤_};
 ghost use lib.ListN.{length};
 ghost use Rattle.index_entries.specs.Keys.{slot, found};
 ghost use Rattle.index_entries.specs.Bytes.{wordAt, entries, value, read, wholeB};
@@ -25,6 +25,14 @@ pub fn word(s: &[u8], a: usize) -> usize
     ensures { λ r. ⌜ (r ≡ wordAt (now (s .entry)) a) × (r < 65536) ⌝ }
 {
     (s[a] as usize) + 256 * (s[a + 1] as usize)
+}
+
+// Where the lists end, which begin at byte 2.
+pub fn lists_end(s: &[u8]) -> usize
+    requires { ⌜ wholeB (now s) ≡ true ⌝ }
+    ensures { λ r. ⌜ (r ≡ 8 + 2 * entries (now (s .entry))) × (r ≤ length (now (s .entry))) ⌝ }
+{
+    8 + 2 * (s[3] as usize)
 }
 
 pub fn get_index(s: &[u8], key: u16) -> Place

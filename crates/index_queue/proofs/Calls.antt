@@ -7,10 +7,11 @@ use mathlib.Core.Bool.{true, false, and-false}
 use native.Mathlib.Omega.{arith}
 use native.Mathlib.Decide.{decLt}
 use lib.ListN.{length, take, drop}
-use borrow.Author.Tests.{lt-ltb, le-ltb, lt-leb, eq-eqb, ne-eqb}
+use borrow.Author.Tests.{lt-ltb, le-ltb, lt-leb, eq-eqb, ne-eqb, eqb-true}
 use Rattle.state.specs.Lengths.{keysAllowed, keysLength}
 use Rattle.state.specs.Result.{Result, refuse, done, answer, Bytes}
-use Rattle.state.proofs.Calls.{Ends, not-whole, is-whole, refused, laid-out}
+use Rattle.state.proofs.Tests.{not-both}
+use Rattle.state.proofs.Calls.{Ends, not-whole, ends, refused, laid-out}
 use Rattle.multi_cycle_list.specs.Lists.{Lists, Valid, count, row, first, last, without-entry, movedFront, movedBack}
 use Rattle.multi_cycle_list.specs.Nodes as nodes
 use Rattle.multi_cycle_list.specs.declared.inner.MaybeEntry.{MaybeEntry}
@@ -24,34 +25,26 @@ use Rattle.index_entries.specs.Inner.{placeOf, heldOf}
 use Rattle.index_entries.specs.declared.look.Place.the-variants.{At, Nowhere}
 use Rattle.index_entries.specs.declared.look.Held.the-variants as held-is
 use Rattle.index_entries.proofs.Find.{Looks, looks, key-not-free}
-use Rattle.index_entries.proofs.Facts.{facts-of, slot-in, slots-length, by-word, read-valid, laid-read}
+use Rattle.index_entries.proofs.Facts.{facts-of, owner, slot-in, slots-length, by-word, read-valid, laid-read}
 use Rattle.index_entries.proofs.Acts.{lent-part}
-use Rattle.index_queue.specs.Calls.{contains, valueIn, get, storedIn, getMut, insertNew, insertIn, insert, removeIn, remove, keyAt, front, back, enqueueFront, enqueueBack, dequeue, opening, on, bytes, openedBytes}
+use Rattle.index_queue.specs.Calls.{isAt, contains, valueIn, get, storedIn, getMut, insertNew, insertIn, insert, removeIn, remove, keyAt, front, back, queueIn, enqueueFront, enqueueBack, dequeue, opening, on, openedBytes}
+use Rattle.index_queue.specs.Inner.{Finds, FindsValue, Below}
+use Rattle.index_queue.specs.declared.Found as place
+use Rattle.index_queue.specs.declared.FoundValue as stored
 use Rattle.index_queue.specs.declared.Answer.{Answer}
-use Rattle.index_queue.specs.declared.Answer.the-variants.{Refused, NotTaken, Done, Nothing, Value, Holds}
+use Rattle.index_queue.specs.declared.Answer.the-variants.{Refused, NotTaken, Done, Nothing, Holds}
 
 never : {A : Type 0} → _≡_ {A = ℕ} 0 1 → A
 never h = absurd (omega arith)
 
 -- ---- what the inner functions' answers tell
 
-pub record Located (m : Keys) (k i : ℕ) : Type 0 where
-  pub inside : i < length (m .slots)
-  pub is : found m k ≡ at i (slot m i)
-  pub has : hasKey k (slot m i) ≡ true
+located-in : (m : Keys) (k i : ℕ) (g : Found) → Looks k (m .slots) g → placeOf g ≡ At i → g ≡ at i (slot m i)
+located-in m k i missing l q = never (cc)
+located-in m k i (at j s) l q = let w : j ≡ i = cc in ap (λ (x : Slot). at j x) (sym (l .1 .0)) ∙ ap (λ (x : ℕ). at x (slot m x)) w
 
-located-in : (m : Keys) (k i : ℕ) (g : Found) → found m k ≡ g → Looks k (m .slots) g → placeOf g ≡ At i → Located m k i
-located-in m k i missing e l q = never (cc)
-located-in m k i (at j s) e l q =
-    let w : j ≡ i = cc in
-    record {
-      inside = omega (arith, l .0);
-      is = e ∙ ap (λ (x : Slot). at j x) (sym (l .1 .0)) ∙ ap (λ (x : ℕ). at x (slot m x)) w;
-      has = ap (λ (x : ℕ). hasKey k (slot m x)) (sym w) ∙ ap (hasKey k) (l .1 .0) ∙ l .1 .1;
-    }
-
-pub located : (m : Keys) (k i : ℕ) → placeOf (found m k) ≡ At i → Located m k i
-located m k i q = located-in m k i (found m k) refl (looks k (m .slots)) q
+pub located : (m : Keys) (k i : ℕ) → placeOf (found m k) ≡ At i → found m k ≡ at i (slot m i)
+located m k i q = located-in m k i (found m k) (looks k (m .slots)) q
 
 absent-in : (g : Found) → placeOf g ≡ Nowhere → g ≡ missing
 absent-in missing q = refl
@@ -75,133 +68,144 @@ held-free free q = refl
 held-free (holds j w) q = never (cc)
 held-free (spent j) q = never (cc)
 
--- found, and what it holds
-pub holding : (m : Keys) (k i : ℕ) (x : Slot) → Located m k i → slot m i ≡ x → found m k ≡ at i x
-holding m k i x l q = l .is ∙ ap (λ (s : Slot). at i s) q
+-- what `find` and `find_value` answered, for the answer that the code met
+pub finds : (s : List ℕ) (k : ℕ) {r x : place.Found} → Finds s k r → r ≡ x → Finds s k x
+finds s k e q = subst (λ r. Finds s k r) q e
+
+pub finds-value : (s : List ℕ) (k : ℕ) {r x : stored.FoundValue} → FindsValue s k r → r ≡ x → FindsValue s k x
+finds-value s k e q = subst (λ r. FindsValue s k r) q e
+
+-- the entry found
+module _ (s : List ℕ) (k i : ℕ) (x : Slot) (e : found (read s) k ≡ at i x) where
+  there : Looks k (read s .slots) (at i x)
+  there = subst (λ (g : Found). Looks k (read s .slots) g) e (looks k (read s .slots))
+
+  pub inside : i < entries s
+  unfolding there
+  inside = omega (arith, there .0, slots-length s)
+
+  pub not-free : isFree (slot (read s) i) ≡ false
+  unfolding there
+  not-free = ap isFree (there .1 .0) ∙ key-not-free k x (there .1 .1)
+
+  pub within : wholeB s ≡ true → k ≤ kMax s
+  unfolding there
+  within h = owner s (facts-of s h) i k (ap (hasKey k) (there .1 .0) ∙ there .1 .1) .1 .within
+
+  -- what it holds, with the key sought
+  has : (y : Slot) → slot (read s) i ≡ y → (found (read s) k ≡ at i y) × (hasKey k y ≡ true)
+  unfolding there
+  has y q = let w : x ≡ y = sym (there .1 .0) ∙ q in (e ∙ ap (λ (z : Slot). at i z) w, ap (hasKey k) (sym w) ∙ there .1 .1)
+
+  pub has-value : (j v : ℕ) → heldOf (slot (read s) i) ≡ held-is.Value j v → found (read s) k ≡ at i (holds k v)
+  has-value j v q = let w = has (holds j v) (held-holds (slot (read s) i) j v q) in w .0 ∙ ap (λ (z : ℕ). at i (holds z v)) (eqb-true j k (w .1))
+
+  pub has-spent : (j : ℕ) → heldOf (slot (read s) i) ≡ held-is.Spent j → found (read s) k ≡ at i (spent k)
+  has-spent j q = let w = has (spent j) (held-spent (slot (read s) i) j q) in w .0 ∙ ap (λ (z : ℕ). at i (spent z)) (eqb-true j k (w .1))
+
+  pub has-key : {A : Type 0} → heldOf (slot (read s) i) ≡ held-is.Free → A
+  has-key q = not-both (sym (has free (held-free (slot (read s) i) q) .1))
 
 -- an entry that holds a value has its key in its word
-pub record Worded (s : List ℕ) (i k v : ℕ) : Type 0 where
+pub record Worded (s : List ℕ) (i k : ℕ) : Type 0 where
+  pub inside : i < entries s
   pub key : keyWord (entries s) s i ≡ k
   pub small : k < 8192
 
-pub worded : (s : List ℕ) (i k v : ℕ) → i < entries s → slot (read s) i ≡ holds k v → Worded s i k v
-worded s i k v h q =
-    by-word (λ x. x ≡ holds k v → Worded s i k v) (keyWord (entries s) s i) (value (entries s) s i)
-    (λ a e. let w : keyWord (entries s) s i ≡ k = cc in record { key = w; small = omega arith })
+pub worded : (s : List ℕ) (k i v : ℕ) → found (read s) k ≡ at i (holds k v) → Worded s i k
+worded s k i v e =
+    let h = inside s k i (holds k v) e in
+    by-word (λ x. x ≡ holds k v → Worded s i k) (keyWord (entries s) s i) (value (entries s) s i)
+    (λ a e. let w : keyWord (entries s) s i ≡ k = cc in record { inside = h; key = w; small = omega arith })
     (λ a b e. never (cc))
     (λ a e. never (cc))
-    (sym (slot-in s i h) ∙ q)
+    (sym (slot-in s i h) ∙ there s k i (holds k v) e .1 .0)
 
 -- ---- a call's end
 
 pub unwhole : (f : Keys → Result Answer Keys) (s : List ℕ) → wholeB s ≡ false → Ends laid s (on f s) (Refused 1) s
 unwhole f s h = not-whole wholeB read laid (Refused 1) f s h
 
-module _ (s : List ℕ) (h : wholeB s ≡ true) where
-  pub turned-away : (f : Keys → Result Answer Keys) (a : Answer) → f (read s) ≡ refuse a → Ends laid s (on f s) a s
-  turned-away f a q = refused wholeB read laid (Refused 1) f s h a q
+module _ (s : List ℕ) (h : wholeB s ≡ true) (f : Keys → Result Answer Keys) where
+  pub turned-away : (a : Answer) → f (read s) ≡ refuse a → Ends laid s (on f s) a s
+  turned-away a q = refused wholeB read laid (Refused 1) f s h a q
 
-  pub changes : (f : Keys → Result Answer Keys) (a : Answer) (m : Keys) (t : List ℕ) → f (read s) ≡ done a m → t ≡ laid m s → Ends laid s (on f s) a t
-  changes f a m t q l = laid-out wholeB read laid (Refused 1) f s h a m t q l
+  pub says : (a : Answer) → f (read s) ≡ done a (read s) → a ≡ answer (on f s)
+  says a q = ends wholeB read laid (Refused 1) f s h (done a (read s)) q .0
 
-  pub stays : Bytes s → (f : Keys → Result Answer Keys) (a : Answer) → f (read s) ≡ done a (read s) → Ends laid s (on f s) a s
-  stays y f a q = changes f a (read s) s q (sym (laid-read s (facts-of s h) y))
+  pub changes : (a : Answer) (m : Keys) (t : List ℕ) → f (read s) ≡ done a m → t ≡ laid m s → Ends laid s (on f s) a t
+  changes a m t q l = laid-out wholeB read laid (Refused 1) f s h a m t q l
 
-  pub entry-in : (k i : ℕ) → Located (read s) k i → i < entries s
-  entry-in k i l = omega (arith, l .inside, slots-length s)
+  pub stays : Bytes s → (a : Answer) → f (read s) ≡ done a (read s) → Ends laid s (on f s) a s
+  stays y a q = changes a (read s) s q (sym (laid-read s (facts-of s h) y))
 
-  pub not-free : (k i : ℕ) → Located (read s) k i → isFree (slot (read s) i) ≡ false
-  not-free k i l = key-not-free k (slot (read s) i) (l .has)
+-- ---- each call, by what is found
 
--- ---- each call, where the key is found and where not
+module _ (m : Keys) (k : ℕ) (g : Found) (e : found m k ≡ g) where
+  pub contains-is : contains k m ≡ done (Holds (isAt g)) m
+  unfolding contains
+  contains-is = rw e
 
-module _ (m : Keys) (k : ℕ) where
-  module _ (e : found m k ≡ missing) where
-    pub contains-none : contains k m ≡ done (Holds false) m
-    unfolding contains
-    contains-none = rw e
+  pub get-is : get k m ≡ done (valueIn g) m
+  unfolding get
+  get-is = rw e
 
-    pub get-none : get k m ≡ done Nothing m
-    unfolding get
-    get-none = rw e
+  pub get-mut-is : (v : ℕ) → getMut k v m ≡ storedIn v m g
+  unfolding getMut
+  get-mut-is v = rw e
 
-    pub get-mut-none : (v : ℕ) → getMut k v m ≡ done (Holds false) m
-    unfolding getMut
-    get-mut-none v = rw e
+  pub insert-is : (v : ℕ) → k ≤ m .kMax → insert k v m ≡ insertIn k v m g
+  unfolding insert
+  insert-is v l = rw (le-ltb (m .kMax) k l, e)
 
-    pub insert-none : (v : ℕ) → k ≤ m .kMax → insert k v m ≡ insertNew k v m (row (m .lists) 1)
-    unfolding insert
-    insert-none v l = rw (le-ltb (m .kMax) k l, e)
-
-    pub remove-none : remove k m ≡ done Nothing m
-    unfolding remove
-    remove-none = rw e
-
-    pub front-none : enqueueFront k m ≡ refuse (Refused 15)
-    unfolding enqueueFront
-    front-none = rw e
-
-    pub back-none : enqueueBack k m ≡ refuse (Refused 15)
-    unfolding enqueueBack
-    back-none = rw e
-
-    pub dequeue-none : dequeue k m ≡ refuse (Refused 15)
-    unfolding dequeue
-    dequeue-none = rw e
-
-  module _ (i : ℕ) (x : Slot) (e : found m k ≡ at i x) where
-    pub contains-at : contains k m ≡ done (Holds true) m
-    unfolding contains
-    contains-at = rw e
-
-    pub get-at : get k m ≡ done (valueIn (at i x)) m
-    unfolding get
-    get-at = rw e
-
-    pub get-mut-at : (v : ℕ) → getMut k v m ≡ storedIn v m (at i x)
-    unfolding getMut
-    get-mut-at v = rw e
-
-    pub insert-at : (v : ℕ) → k ≤ m .kMax → insert k v m ≡ insertIn k v m (at i x)
-    unfolding insert
-    insert-at v l = rw (le-ltb (m .kMax) k l, e)
-
-    pub remove-at : remove k m ≡ removeIn m (at i x)
-    unfolding remove
-    remove-at = rw e
-
-    pub front-at : enqueueFront k m ≡ done Done (withLists (movedFront 0 i (m .lists)) m)
-    unfolding enqueueFront
-    front-at = rw e
-
-    pub back-at : enqueueBack k m ≡ done Done (withLists (movedBack 0 i (m .lists)) m)
-    unfolding enqueueBack
-    back-at = rw e
-
-    pub dequeue-at : dequeue k m ≡ done Done (withLists (without-entry i (m .lists)) m)
-    unfolding dequeue
-    dequeue-at = rw e
+  pub remove-is : remove k m ≡ removeIn m g
+  unfolding remove
+  remove-is = rw e
 
 pub insert-past : (m : Keys) (k v : ℕ) → m .kMax < k → insert k v m ≡ refuse (NotTaken k v)
 unfolding insert
 insert-past m k v h = rw (lt-ltb (m .kMax) k h)
 
+-- the calls that move the key's entry
+module _ (f : ℕ → Keys → Result Answer Keys) (move : ℕ → Lists → Lists) (is : (k : ℕ) (m : Keys) → f k m ≡ queueIn move m (found m k)) (s : List ℕ) (k : ℕ) where
+  pub moved : (i : ℕ) (t : List ℕ) → Finds s k (place.the-variants.At i) → t ≡ laid (withLists (move i (read s .lists)) (read s)) s → Ends laid s (on (f k) s) Done t
+  moved i t e q = changes s (e .0) (f k) Done (withLists (move i (read s .lists)) (read s)) t (is k (read s) ∙ ap (queueIn move (read s)) (e .1)) q
+
+  pub unmoved : Finds s k place.the-variants.Nowhere → Ends laid s (on (f k) s) (Refused 15) s
+  unmoved e = turned-away s (e .0) (f k) (Refused 15) (is k (read s) ∙ ap (queueIn move (read s)) (e .1))
+
+pub movable : (s : List ℕ) (k i : ℕ) → Finds s k (place.the-variants.At i) → (wholeB s ≡ true) × ((i < entries s) × (isFree (slot (read s) i) ≡ false))
+movable s k i e = (e .0, (inside s k i (slot (read s) i) (e .1), not-free s k i (slot (read s) i) (e .1)))
+
+pub front-move : (k : ℕ) (m : Keys) → enqueueFront k m ≡ queueIn (movedFront 0) m (found m k)
+unfolding enqueueFront
+front-move k m = refl
+
+pub back-move : (k : ℕ) (m : Keys) → enqueueBack k m ≡ queueIn (movedBack 0) m (found m k)
+unfolding enqueueBack
+back-move k m = refl
+
+pub gone-move : (k : ℕ) (m : Keys) → dequeue k m ≡ queueIn without-entry m (found m k)
+unfolding dequeue
+gone-move k m = refl
+
 -- ---- the ends of a list
 
-pub first-of : (l : List ℕ) (i : ℕ) → first l ≡ Some i → (r : List ℕ) × (l ≡ i ∷ r)
+first-of : (l : List ℕ) (i : ℕ) → first l ≡ Some i → (r : List ℕ) × (l ≡ i ∷ r)
 first-of [] i q = never (cc)
 first-of (x ∷ xs) i q = (xs, cc)
 
-head-in : (i : ℕ) (r : List ℕ) → 0 < count i (i ∷ r)
-head-in i r = in-count i (i ∷ r) (inl refl)
+pub below : (n : ℕ) {a b : MaybeEntry} → Below n a → a ≡ b → Below n b
+below n h q = subst (λ (a : MaybeEntry). Below n a) q h
 
-first-in : (l : List ℕ) (i : ℕ) → first l ≡ Some i → 0 < count i l
-first-in l i q = let w = first-of l i q in subst (λ (x : List ℕ). 0 < count i x) (sym (w .1)) (head-in i (w .0))
+first-below : (n : ℕ) (l : List ℕ) → ((i : ℕ) → In i l → i < n) → Below n (first l)
+first-below n [] g = tt
+first-below n (x ∷ xs) g = g x (inl refl)
 
-last-in-list : (l : List ℕ) (i : ℕ) → last l ≡ Some i → In i l
-last-in-list [] i q = never (cc)
-last-in-list (x ∷ []) i q = inl (cc)
-last-in-list (x ∷ (y ∷ ys)) i q = inr (last-in-list (y ∷ ys) i q)
+last-below : (n : ℕ) (l : List ℕ) → ((i : ℕ) → In i l → i < n) → Below n (last l)
+last-below n [] g = tt
+last-below n (x ∷ []) g = g x (inl refl)
+last-below n (x ∷ (y ∷ ys)) g = last-below n (y ∷ ys) (λ i q. g i (inr q))
 
 -- an entry that stands in a list is one
 pub in-size : (m : Lists) → Valid m → (c i : ℕ) → 0 < count i (row m c) → i < m .entries
@@ -211,34 +215,38 @@ module _ (s : List ℕ) (y : Bytes s) (h : wholeB s ≡ true) where
   r : ValidKeys (read s)
   r = read-valid s (facts-of s h) y
 
-  listed-entry : (c i : ℕ) → 0 < count i (row (read s .lists) c) → i < entries s
+  listed : (c i : ℕ) → In i (row (read s .lists) c) → i < entries s
   unfolding r
-  listed-entry c i q = omega (arith, in-size (read s .lists) (r .valid) c i q, r .entries, slots-length s)
+  listed c i q = omega (arith, in-size (read s .lists) (r .valid) c i (in-count i (row (read s .lists) c) q), r .entries, slots-length s)
 
-  pub first-entry : (c i : ℕ) → first (row (read s .lists) c) ≡ Some i → i < entries s
-  first-entry c i q = listed-entry c i (first-in (row (read s .lists) c) i q)
+  pub first-entry : (c : ℕ) {a : MaybeEntry} → a ≡ first (row (read s .lists) c) → Below (entries s) a
+  first-entry c q = below (entries s) (first-below (entries s) (row (read s .lists) c) (listed c)) (sym q)
 
-  pub last-entry : (c i : ℕ) → last (row (read s .lists) c) ≡ Some i → i < entries s
-  last-entry c i q = listed-entry c i (in-count i (row (read s .lists) c) (last-in-list (row (read s .lists) c) i q))
+  pub last-entry : (c : ℕ) {a : MaybeEntry} → a ≡ last (row (read s .lists) c) → Below (entries s) a
+  last-entry c q = below (entries s) (last-below (entries s) (row (read s .lists) c) (listed c)) (sym q)
 
-  pub first-free : (i : ℕ) → first (row (read s .lists) 1) ≡ Some i → isFree (slot (read s) i) ≡ true
+  pub first-free : (i : ℕ) → Some i ≡ first (row (read s .lists) 1) → isFree (slot (read s) i) ≡ true
   unfolding r
-  first-free i q = r .listed-free i (first-in (row (read s .lists) 1) i q)
+  first-free i q =
+      let w = first-of (row (read s .lists) 1) i (sym q) in
+      r .listed-free i (subst (λ (x : List ℕ). 0 < count i x) (sym (w .1)) (in-count i (i ∷ (w .0)) (inl refl)))
 
--- the list that the code lends
-pub lent-row : (s : List ℕ) → wholeB s ≡ true → (n : ℕ) → n ≡ 6 + 2 * entries s → (c : ℕ) → row (nodes.read (take n (drop 2 s))) c ≡ row (read s .lists) c
-lent-row s h n q c = ap (λ (x : List ℕ). row (nodes.read x) c) (lent-part s h n q)
+-- a list that the code lends
+pub lent-row : (s : List ℕ) → wholeB s ≡ true → (e : ℕ) → e ≡ 8 + 2 * entries s → (c : ℕ) → row (nodes.read (take (e - 2) (drop 2 s))) c ≡ row (read s .lists) c
+lent-row s h e q c = ap (λ (x : List ℕ). row (nodes.read x) c) (lent-part s h e q)
 
--- a free entry takes the new key; or none is free
-pub new-taken : (m : Keys) (k v i : ℕ) → first (row (m .lists) 1) ≡ Some i → insertNew k v m (row (m .lists) 1) ≡ done Nothing (changed i (holds k v) (without-entry i (m .lists)) m)
-new-taken m k v i q = let w = first-of (row (m .lists) 1) i q in ap (insertNew k v m) (w .1)
+-- ---- a key that has no entry: a free entry takes it; or none is free
 
 none-free : (l : List ℕ) → first l ≡ None → l ≡ []
 none-free [] q = refl
 none-free (x ∷ xs) q = never (cc)
 
-pub new-refused : (m : Keys) (k v : ℕ) → first (row (m .lists) 1) ≡ None → insertNew k v m (row (m .lists) 1) ≡ refuse (NotTaken k v)
-new-refused m k v q = ap (insertNew k v m) (none-free (row (m .lists) 1) q)
+module _ (m : Keys) (k v : ℕ) (e : found m k ≡ missing) (l : k ≤ m .kMax) where
+  pub new-taken : (i : ℕ) → Some i ≡ first (row (m .lists) 1) → insert k v m ≡ done Nothing (changed i (holds k v) (without-entry i (m .lists)) m)
+  new-taken i q = insert-is m k missing e v l ∙ ap (insertNew k v m) (first-of (row (m .lists) 1) i (sym q) .1)
+
+  pub new-refused : None ≡ first (row (m .lists) 1) → insert k v m ≡ refuse (NotTaken k v)
+  new-refused q = insert-is m k missing e v l ∙ ap (insertNew k v m) (none-free (row (m .lists) 1) (sym q))
 
 -- ---- opening
 
@@ -274,15 +282,3 @@ front-is m a q = rw q
 pub back-is : (m : Keys) (a : MaybeEntry) → last (row (m .lists) 0) ≡ a → back m ≡ done (keyAt m a) m
 unfolding back
 back-is m a q = rw q
-
--- ---- inserting a new key
-
-pub new-ends : (s : List ℕ) (k v : ℕ) (o : Result Answer Keys) → insertNew k v (read s) (row (read s .lists) 1) ≡ o
-    → (answer o ≡ answer (insertNew k v (read s) (row (read s .lists) 1))) × (bytes s o ≡ bytes s (insertNew k v (read s) (row (read s .lists) 1)))
-new-ends s k v o q = (ap (λ (x : Result Answer Keys). answer x) (sym q), ap (λ (x : Result Answer Keys). bytes s x) (sym q))
-
-pub as-new : (s : List ℕ) → wholeB s ≡ true → (k v : ℕ) → k ≤ kMax s → found (read s) k ≡ missing → (r : Answer) (t : List ℕ)
-    → (r ≡ answer (insertNew k v (read s) (row (read s .lists) 1))) × (t ≡ bytes s (insertNew k v (read s) (row (read s .lists) 1))) → Ends laid s (on (insert k v) s) r t
-as-new s h k v l e r t q =
-    let z : on (insert k v) s ≡ insertNew k v (read s) (row (read s .lists) 1) = is-whole wholeB read laid (Refused 1) (insert k v) s h ∙ insert-none (read s) k e v l in
-    (q .0 ∙ ap (λ (x : Result Answer Keys). answer x) (sym z), q .1 ∙ ap (λ (x : Result Answer Keys). bytes s x) (sym z))

@@ -12,6 +12,7 @@ use index_entries::look::Held;
 use index_entries::look::Place;
 use index_entries::look::get_index;
 use index_entries::look::held_at;
+use index_entries::look::lists_end;
 use index_entries::look::word;
 use index_whole::whole;
 use multi_cycle_list::inner::MaybeEntry;
@@ -19,13 +20,14 @@ use multi_cycle_list::inner::inner_back;
 use multi_cycle_list::inner::inner_front;
 ghost use mathlib.Core.Path.{_≡_};
 ghost use mathlib.Core.Bool.{true};
-ghost use Prim.Native.Nat.{_<_, _≤_};
+ghost use Prim.Native.Nat.{_<_};
 ghost use lib.ListN.{length};
 ghost use Rattle.state.specs.Result.{answer};
 ghost use Rattle.multi_cycle_list.specs.Lists.{first, row};
 ghost use Rattle.index_entries.specs.Keys.{found, missing, slot};
-ghost use Rattle.index_entries.specs.Bytes.{wholeB, read, entries, kMax};
-ghost use Rattle.index_queue.specs.Calls.{on, bytes, openedBytes, opening, contains, get, getMut, insert, insertNew, remove, front, back, keyIn, enqueueFront, enqueueBack, dequeue, KeysMean};
+ghost use Rattle.index_entries.specs.Bytes.{wholeB, read, entries};
+ghost use Rattle.index_queue.specs.Inner.{Finds, FindsValue, Below};
+ghost use Rattle.index_queue.specs.Calls.{on, bytes, openedBytes, opening, contains, get, getMut, insert, remove, front, back, keyIn, keyAt, enqueueFront, enqueueBack, dequeue, KeysMean};
 
 // An answer of a call. `NotTaken` has the key and the value of an insert; `Holds`, whether the key has an entry, or the value was stored.
 pub enum Answer {
@@ -36,6 +38,21 @@ pub enum Answer {
     Key(u16),
     Value(u32),
     Holds(bool),
+}
+
+// Where a key's entry is, in bytes that may not be whole.
+enum Found {
+    NotWhole,
+    Nowhere,
+    At(usize),
+}
+
+// The same, with the value; or that it was handed back.
+enum FoundValue {
+    NotWhole,
+    Nowhere,
+    Spent,
+    Value(usize, u32),
 }
 
 pub fn open(s: &mut [u8], k_max: u32, entries: u32) -> Answer
@@ -56,16 +73,39 @@ pub fn open(s: &mut [u8], k_max: u32, entries: u32) -> Answer
     Answer::Done
 }
 
+fn find(s: &[u8], key: u16) -> Found
+    ensures { λ r. ⌜ Finds (now (s .entry)) key r ⌝ }
+{
+    if whole(s) {} else {
+        return Found::NotWhole;
+    }
+    match get_index(s, key) {
+        Place::At(i) => Found::At(i),
+        Place::Nowhere => Found::Nowhere,
+    }
+}
+
+fn find_value(s: &[u8], key: u16) -> FoundValue
+    ensures { λ r. ⌜ FindsValue (now (s .entry)) key r ⌝ }
+{
+    match find(s, key) {
+        Found::At(i) => match held_at(s, i) {
+            Held::Value(_, v) => FoundValue::Value(i, v),
+            Held::Spent(_) => FoundValue::Spent,
+            Held::Free => FoundValue::Spent,
+        },
+        Found::Nowhere => FoundValue::Nowhere,
+        Found::NotWhole => FoundValue::NotWhole,
+    }
+}
+
 pub fn contains(s: &[u8], key: u16) -> Answer
     ensures { λ r. ⌜ r ≡ answer (on (contains key) (now (s .entry))) ⌝ }
 {
-    if whole(s) {} else {
-        return Answer::Refused(1);
-    }
-    let p = get_index(s, key);
-    match p {
-        Place::At(_) => Answer::Holds(true),
-        Place::Nowhere => Answer::Holds(false),
+    match find(s, key) {
+        Found::At(_) => Answer::Holds(true),
+        Found::Nowhere => Answer::Holds(false),
+        Found::NotWhole => Answer::Refused(1),
     }
 }
 
@@ -73,20 +113,11 @@ pub fn contains(s: &[u8], key: u16) -> Answer
 pub fn get(s: &[u8], key: u16) -> Answer
     ensures { λ r. ⌜ r ≡ answer (on (get key) (now (s .entry))) ⌝ }
 {
-    if whole(s) {} else {
-        return Answer::Refused(1);
-    }
-    let p = get_index(s, key);
-    match p {
-        Place::At(i) => {
-            let h = held_at(s, i);
-            match h {
-                Held::Value(_, v) => Answer::Value(v),
-                Held::Spent(_) => Answer::Nothing,
-                Held::Free => Answer::Nothing,
-            }
-        }
-        Place::Nowhere => Answer::Nothing,
+    match find_value(s, key) {
+        FoundValue::Value(_, v) => Answer::Value(v),
+        FoundValue::Spent => Answer::Nothing,
+        FoundValue::Nowhere => Answer::Nothing,
+        FoundValue::NotWhole => Answer::Refused(1),
     }
 }
 
@@ -94,34 +125,35 @@ pub fn get(s: &[u8], key: u16) -> Answer
 pub fn get_mut(s: &mut [u8], key: u16, value: u32) -> Answer
     ensures { λ r. ⌜ (r ≡ answer (on (getMut key value) (now (s .entry)))) × (now (s .exit) ≡ bytes (now (s .entry)) (on (getMut key value) (now (s .entry)))) ⌝ }
 {
-    if whole(s) {} else {
-        return Answer::Refused(1);
-    }
-    let p = get_index(s, key);
-    match p {
-        Place::At(i) => {
-            let h = held_at(s, i);
-            match h {
-                Held::Value(_, _) => {
-                    store_value(s, i, value);
-                    Answer::Holds(true)
-                }
-                Held::Spent(_) => Answer::Holds(false),
-                Held::Free => Answer::Holds(false),
-            }
+    match find_value(s, key) {
+        FoundValue::Value(i, _) => {
+            store_value(s, i, value);
+            Answer::Holds(true)
         }
-        Place::Nowhere => Answer::Holds(false),
+        FoundValue::Spent => Answer::Holds(false),
+        FoundValue::Nowhere => Answer::Holds(false),
+        FoundValue::NotWhole => Answer::Refused(1),
     }
+}
+
+// The first entry of the queue, which is class 0, or of the free ones, class 1.
+fn first_of(s: &[u8], class: usize) -> MaybeEntry
+    requires { ⌜ (wholeB (now s) ≡ true) × (class < 2) ⌝ }
+    ensures { λ r. ⌜ r ≡ first (row (read (now (s .entry)) .lists) class) ⌝ }
+{
+    let e = lists_end(s);
+    inner_front(&s[2..e], class)
 }
 
 // A key that has no entry: the first free entry takes it.
 fn insert_new(s: &mut [u8], key: u16, value: u32) -> Answer
-    requires { ⌜ (wholeB (now s) ≡ true) × ((key ≤ kMax (now s)) × (found (read (now s)) key ≡ missing)) ⌝ }
-    ensures { λ r. ⌜ (r ≡ answer (insertNew key value (read (now (s .entry))) (row (read (now (s .entry)) .lists) 1))) × (now (s .exit) ≡ bytes (now (s .entry)) (insertNew key value (read (now (s .entry))) (row (read (now (s .entry)) .lists) 1))) ⌝ }
+    requires { ⌜ (wholeB (now s) ≡ true) × (found (read (now s)) key ≡ missing) ⌝ }
+    ensures { λ r. ⌜ (r ≡ answer (on (insert key value) (now (s .entry)))) × (now (s .exit) ≡ bytes (now (s .entry)) (on (insert key value) (now (s .entry)))) ⌝ }
 {
-    let e = 8 + 2 * (s[3] as usize);
-    let f = inner_front(&s[2..e], 1);
-    match f {
+    if word(s, 0) < key as usize {
+        return Answer::NotTaken(key, value);
+    }
+    match first_of(s, 1) {
         MaybeEntry::Some(i) => {
             take_entry(s, i as usize, key, value);
             Answer::Nothing
@@ -133,49 +165,28 @@ fn insert_new(s: &mut [u8], key: u16, value: u32) -> Answer
 pub fn insert(s: &mut [u8], key: u16, value: u32) -> Answer
     ensures { λ r. ⌜ (r ≡ answer (on (insert key value) (now (s .entry)))) × (now (s .exit) ≡ bytes (now (s .entry)) (on (insert key value) (now (s .entry)))) ⌝ }
 {
-    if whole(s) {} else {
-        return Answer::Refused(1);
-    }
-    if word(s, 0) < key as usize {
-        return Answer::NotTaken(key, value);
-    }
-    let p = get_index(s, key);
-    match p {
-        Place::At(i) => {
-            let h = held_at(s, i);
-            match h {
-                Held::Value(k, old) => {
-                    spend(s, i, k);
-                    Answer::Value(old)
-                }
-                Held::Spent(_) => Answer::Refused(16),
-                Held::Free => Answer::Refused(16),
-            }
+    match find_value(s, key) {
+        FoundValue::Value(i, old) => {
+            spend(s, i, key);
+            Answer::Value(old)
         }
-        Place::Nowhere => insert_new(s, key, value),
+        FoundValue::Spent => Answer::Refused(16),
+        FoundValue::Nowhere => insert_new(s, key, value),
+        FoundValue::NotWhole => Answer::Refused(1),
     }
 }
 
 pub fn remove(s: &mut [u8], key: u16) -> Answer
     ensures { λ r. ⌜ (r ≡ answer (on (remove key) (now (s .entry)))) × (now (s .exit) ≡ bytes (now (s .entry)) (on (remove key) (now (s .entry)))) ⌝ }
 {
-    if whole(s) {} else {
-        return Answer::Refused(1);
-    }
-    let p = get_index(s, key);
-    match p {
-        Place::At(i) => {
-            let h = held_at(s, i);
-            match h {
-                Held::Value(k, v) => {
-                    free_entry(s, i, k);
-                    Answer::Value(v)
-                }
-                Held::Spent(_) => Answer::Refused(16),
-                Held::Free => Answer::Refused(16),
-            }
+    match find_value(s, key) {
+        FoundValue::Value(i, v) => {
+            free_entry(s, i, key);
+            Answer::Value(v)
         }
-        Place::Nowhere => Answer::Nothing,
+        FoundValue::Spent => Answer::Refused(16),
+        FoundValue::Nowhere => Answer::Nothing,
+        FoundValue::NotWhole => Answer::Refused(1),
     }
 }
 
@@ -184,11 +195,20 @@ fn key_at(s: &[u8], i: usize) -> Answer
     requires { ⌜ (wholeB (now s) ≡ true) × (i < entries (now s)) ⌝ }
     ensures { λ r. ⌜ r ≡ keyIn (slot (read (now (s .entry))) i) ⌝ }
 {
-    let h = held_at(s, i);
-    match h {
+    match held_at(s, i) {
         Held::Value(k, _) => Answer::Key(k),
         Held::Spent(k) => Answer::Key(k),
         Held::Free => Answer::Nothing,
+    }
+}
+
+fn key_of(s: &[u8], entry: MaybeEntry) -> Answer
+    requires { ⌜ (wholeB (now s) ≡ true) × Below (entries (now s)) entry ⌝ }
+    ensures { λ r. ⌜ r ≡ keyAt (read (now (s .entry))) entry ⌝ }
+{
+    match entry {
+        MaybeEntry::Some(i) => key_at(s, i as usize),
+        MaybeEntry::None => Answer::Nothing,
     }
 }
 
@@ -198,12 +218,7 @@ pub fn front(s: &[u8]) -> Answer
     if whole(s) {} else {
         return Answer::Refused(1);
     }
-    let e = 8 + 2 * (s[3] as usize);
-    let f = inner_front(&s[2..e], 0);
-    match f {
-        MaybeEntry::Some(i) => key_at(s, i as usize),
-        MaybeEntry::None => Answer::Nothing,
-    }
+    key_of(s, first_of(s, 0))
 }
 
 pub fn back(s: &[u8]) -> Answer
@@ -212,59 +227,46 @@ pub fn back(s: &[u8]) -> Answer
     if whole(s) {} else {
         return Answer::Refused(1);
     }
-    let e = 8 + 2 * (s[3] as usize);
-    let f = inner_back(&s[2..e], 0);
-    match f {
-        MaybeEntry::Some(i) => key_at(s, i as usize),
-        MaybeEntry::None => Answer::Nothing,
-    }
+    let e = lists_end(s);
+    key_of(s, inner_back(&s[2..e], 0))
 }
 
 pub fn enqueue_front(s: &mut [u8], key: u16) -> Answer
     ensures { λ r. ⌜ (r ≡ answer (on (enqueueFront key) (now (s .entry)))) × (now (s .exit) ≡ bytes (now (s .entry)) (on (enqueueFront key) (now (s .entry)))) ⌝ }
 {
-    if whole(s) {} else {
-        return Answer::Refused(1);
-    }
-    let p = get_index(s, key);
-    match p {
-        Place::At(i) => {
+    match find(s, key) {
+        Found::At(i) => {
             queue_front(s, i);
             Answer::Done
         }
-        Place::Nowhere => Answer::Refused(15),
+        Found::Nowhere => Answer::Refused(15),
+        Found::NotWhole => Answer::Refused(1),
     }
 }
 
 pub fn enqueue_back(s: &mut [u8], key: u16) -> Answer
     ensures { λ r. ⌜ (r ≡ answer (on (enqueueBack key) (now (s .entry)))) × (now (s .exit) ≡ bytes (now (s .entry)) (on (enqueueBack key) (now (s .entry)))) ⌝ }
 {
-    if whole(s) {} else {
-        return Answer::Refused(1);
-    }
-    let p = get_index(s, key);
-    match p {
-        Place::At(i) => {
+    match find(s, key) {
+        Found::At(i) => {
             queue_back(s, i);
             Answer::Done
         }
-        Place::Nowhere => Answer::Refused(15),
+        Found::Nowhere => Answer::Refused(15),
+        Found::NotWhole => Answer::Refused(1),
     }
 }
 
 pub fn dequeue(s: &mut [u8], key: u16) -> Answer
     ensures { λ r. ⌜ (r ≡ answer (on (dequeue key) (now (s .entry)))) × (now (s .exit) ≡ bytes (now (s .entry)) (on (dequeue key) (now (s .entry)))) ⌝ }
 {
-    if whole(s) {} else {
-        return Answer::Refused(1);
-    }
-    let p = get_index(s, key);
-    match p {
-        Place::At(i) => {
+    match find(s, key) {
+        Found::At(i) => {
             unqueue(s, i);
             Answer::Done
         }
-        Place::Nowhere => Answer::Refused(15),
+        Found::Nowhere => Answer::Refused(15),
+        Found::NotWhole => Answer::Refused(1),
     }
 }
 

@@ -1,95 +1,50 @@
 use borrow.Author.Needs.{needs}
 use native.Mathlib.Omega.{arith}
-use Prim.Native.Nat.{ℕ, _+_, _-_, _*_}
-use mathlib.Core.Path.{_≡_, refl, sym, ap, _∙_, subst}
+use Prim.Native.Nat.{ℕ}
+use mathlib.Core.Path.{ap, _∙_}
+use Rattle.index_entries.specs.Keys.{holds, withSlot}
 use Rattle.index_entries.specs.Bytes.{read}
-use Rattle.index_entries.proofs.Acts.{bytes-of}
-use Rattle.index_entries.specs.Keys.{holds, spent, free, slot, withSlot, withLists, changed}
-use lib.ListN.{length}
 use Rattle.index_entries.specs.Laid.{laid}
+use Rattle.index_entries.proofs.Acts.{bytes-of}
 use Rattle.index_queue.specs.Calls.{getMut}
-use Rattle.index_queue.proofs.Calls.{located, absent, entry-in, held-holds, held-spent, held-free, holding, worded, unwhole, stays, changes, get-mut-at, get-mut-none}
+use Rattle.index_queue.proofs.Calls.{finds-value, worded, unwhole, changes, stays, get-mut-is}
 use Rattle.index_queue.proofs.get_mut.Statement.{statement}
 use Rattle.index_queue.proofs.get_mut.Tie as tie
 
-whole-requires : tie.Need-whole-requires
-whole-requires c κs = search needs
-
-same-length : tie.Need-same-length
-same-length c = search needs
+store-value-requires : tie.Need-store-value-requires
+store-value-requires c κs =
+    let a = c .before .before .before .before .before .before .before .args in
+    let e = finds-value (a .s .now) (a .key) (c .before .before .before .before .find-value .ensures) (c .before .before .i .given .1) in
+    let w = worded (a .s .now) (a .key) _ _ (e .1) in
+    (e .0, (w .inside, omega (arith, w .key, w .small)))
 
 returns : tie.Need-returns
-returns c = unwhole (getMut (c .before .before .before .before .args .key) (c .before .before .before .before .args .value)) (c .before .before .before .before .args .s .now) (sym (c .before .whole .ensures) ∙ c .if1 .left)
-
-get-index-requires : tie.Need-get-index-requires
-get-index-requires c κs = (sym (c .before .before .whole .ensures) ∙ c .before .if1 .taken)
-
-enum-known-p : tie.Need-enum-known-p
-enum-known-p c = search needs
-
-held-at-requires : tie.Need-held-at-requires
-held-at-requires c κs = ((sym (c .before .before .before .before .before .before .before .whole .ensures) ∙ c .before .before .before .before .before .before .if1 .taken), entry-in (c .before .before .before .before .before .before .before .before .before .before .args .s .now) (sym (c .before .before .before .before .before .before .before .whole .ensures) ∙ c .before .before .before .before .before .before .if1 .taken) (c .before .before .before .before .before .before .before .before .before .before .args .key) (c .before .before .p .given .0 .0) (located (read (c .before .before .before .before .before .before .before .before .before .before .args .s .now)) (c .before .before .before .before .before .before .before .before .before .before .args .key) (c .before .before .p .given .0 .0) (sym (c .before .before .before .before .get-index .ensures) ∙ c .before .before .p .given .1)))
-
-enum-told : tie.Need-enum-told
-enum-told c = search needs
-
-store-value-requires : tie.Need-store-value-requires
-store-value-requires c κs = let i = entry-in (c .before .before .before .before .before .before .before .before .before .before .before .before .before .before .args .s .now) (sym (c .before .before .before .before .before .before .before .before .before .before .before .whole .ensures) ∙ c .before .before .before .before .before .before .before .before .before .before .if1 .taken) (c .before .before .before .before .before .before .before .before .before .before .before .before .before .before .args .key) (c .before .before .before .before .before .before .p .given .0 .0) (located (read (c .before .before .before .before .before .before .before .before .before .before .before .before .before .before .args .s .now)) (c .before .before .before .before .before .before .before .before .before .before .before .before .before .before .args .key) (c .before .before .before .before .before .before .p .given .0 .0) (sym (c .before .before .before .before .before .before .before .before .get-index .ensures) ∙ c .before .before .before .before .before .before .p .given .1)) in let w = worded (c .before .before .before .before .before .before .before .before .before .before .before .before .before .before .args .s .now) (c .before .before .before .before .before .before .p .given .0 .0) _ _ i (held-holds (slot (read (c .before .before .before .before .before .before .before .before .before .before .before .before .before .before .args .s .now)) (c .before .before .before .before .before .before .p .given .0 .0)) _ _ (sym (c .before .before .before .held-at .ensures) ∙ c .before .enum-told .given .1)) in ((sym (c .before .before .before .before .before .before .before .before .before .before .before .whole .ensures) ∙ c .before .before .before .before .before .before .before .before .before .before .if1 .taken), (i, omega (arith, w .key, w .small)))
-
-enum-told-2 : tie.Need-enum-told-2
-enum-told-2 c = search needs
-
-enum-told-3 : tie.Need-enum-told-3
-enum-told-3 c = search needs
-
-enum-told-4 : tie.Need-enum-told-4
-enum-told-4 c = search needs
-
-same-length-2 : tie.Need-same-length-2
-same-length-2 c = search needs
+returns c =
+    let a = c .before .before .before .before .before .before .before .before .before .before .args in
+    let e = finds-value (a .s .now) (a .key) (c .before .before .before .before .before .before .before .find-value .ensures) (c .before .before .before .before .before .i .given .1) in
+    let i = c .before .before .before .before .before .i .given .0 .0 in
+    changes (a .s .now) (e .0) (getMut (a .key) (a .value)) _ (withSlot i (holds (a .key) (a .value)) (read (a .s .now))) _ (get-mut-is (read (a .s .now)) (a .key) _ (e .1) (a .value))
+    (c .before .before .store-value .ensures ∙ ap (λ (x : ℕ). laid (withSlot i (holds x (a .value)) (read (a .s .now))) (a .s .now)) (worded (a .s .now) (a .key) _ _ (e .1) .key))
 
 returns-2 : tie.Need-returns-2
-returns-2 c = let w = worded (c .before .before .before .before .before .before .before .before .before .before .before .before .before .before .before .before .before .args .s .now) (c .before .before .before .before .before .before .before .before .before .p .given .0 .0) _ _ (entry-in (c .before .before .before .before .before .before .before .before .before .before .before .before .before .before .before .before .before .args .s .now) (sym (c .before .before .before .before .before .before .before .before .before .before .before .before .before .before .whole .ensures) ∙ c .before .before .before .before .before .before .before .before .before .before .before .before .before .if1 .taken) (c .before .before .before .before .before .before .before .before .before .before .before .before .before .before .before .before .before .args .key) (c .before .before .before .before .before .before .before .before .before .p .given .0 .0) (located (read (c .before .before .before .before .before .before .before .before .before .before .before .before .before .before .before .before .before .args .s .now)) (c .before .before .before .before .before .before .before .before .before .before .before .before .before .before .before .before .before .args .key) (c .before .before .before .before .before .before .before .before .before .p .given .0 .0) (sym (c .before .before .before .before .before .before .before .before .before .before .before .get-index .ensures) ∙ c .before .before .before .before .before .before .before .before .before .p .given .1))) (held-holds (slot (read (c .before .before .before .before .before .before .before .before .before .before .before .before .before .before .before .before .before .args .s .now)) (c .before .before .before .before .before .before .before .before .before .p .given .0 .0)) _ _ (sym (c .before .before .before .before .before .before .held-at .ensures) ∙ c .before .before .before .before .enum-told .given .1)) in
-    changes (c .before .before .before .before .before .before .before .before .before .before .before .before .before .before .before .before .before .args .s .now) (sym (c .before .before .before .before .before .before .before .before .before .before .before .before .before .before .whole .ensures) ∙ c .before .before .before .before .before .before .before .before .before .before .before .before .before .if1 .taken) (getMut (c .before .before .before .before .before .before .before .before .before .before .before .before .before .before .before .before .before .args .key) (c .before .before .before .before .before .before .before .before .before .before .before .before .before .before .before .before .before .args .value)) _ (withSlot (c .before .before .before .before .before .before .before .before .before .p .given .0 .0) (holds _ (c .before .before .before .before .before .before .before .before .before .before .before .before .before .before .before .before .before .args .value)) (read (c .before .before .before .before .before .before .before .before .before .before .before .before .before .before .before .before .before .args .s .now))) _ (get-mut-at (read (c .before .before .before .before .before .before .before .before .before .before .before .before .before .before .before .before .before .args .s .now)) (c .before .before .before .before .before .before .before .before .before .before .before .before .before .before .before .before .before .args .key) (c .before .before .before .before .before .before .before .before .before .p .given .0 .0) _ (holding (read (c .before .before .before .before .before .before .before .before .before .before .before .before .before .before .before .before .before .args .s .now)) (c .before .before .before .before .before .before .before .before .before .before .before .before .before .before .before .before .before .args .key) (c .before .before .before .before .before .before .before .before .before .p .given .0 .0) _ (located (read (c .before .before .before .before .before .before .before .before .before .before .before .before .before .before .before .before .before .args .s .now)) (c .before .before .before .before .before .before .before .before .before .before .before .before .before .before .before .before .before .args .key) (c .before .before .before .before .before .before .before .before .before .p .given .0 .0) (sym (c .before .before .before .before .before .before .before .before .before .before .before .get-index .ensures) ∙ c .before .before .before .before .before .before .before .before .before .p .given .1)) (held-holds (slot (read (c .before .before .before .before .before .before .before .before .before .before .before .before .before .before .before .before .before .args .s .now)) (c .before .before .before .before .before .before .before .before .before .p .given .0 .0)) _ _ (sym (c .before .before .before .before .before .before .held-at .ensures) ∙ c .before .before .before .before .enum-told .given .1))) (c .before .before .before .before .before .before .before .before .before .before .before .before .before .before .before .before .before .args .value)) (c .before .before .store-value .ensures ∙ ap (λ (k : ℕ). laid (withSlot (c .before .before .before .before .before .before .before .before .before .p .given .0 .0) (holds k (c .before .before .before .before .before .before .before .before .before .before .before .before .before .before .before .before .before .args .value)) (read (c .before .before .before .before .before .before .before .before .before .before .before .before .before .before .before .before .before .args .s .now))) (c .before .before .before .before .before .before .before .before .before .before .before .before .before .before .before .before .before .args .s .now)) (w .key))
-
-same-length-3 : tie.Need-same-length-3
-same-length-3 c = search needs
+returns-2 c =
+    let a = c .before .before .before .before .before .args in
+    let e = finds-value (a .s .now) (a .key) (c .before .before .find-value .ensures) (c .enum-told .given .1) in
+    stays (a .s .now) (e .0) (getMut (a .key) (a .value)) (bytes-of (a .s .now) (c .before .before .before .before .slice-known .given)) _ (get-mut-is (read (a .s .now)) (a .key) _ (e .1 .1) (a .value))
 
 returns-3 : tie.Need-returns-3
-returns-3 c = stays (c .before .before .before .before .before .before .before .before .before .before .before .before .before .args .s .now) (sym (c .before .before .before .before .before .before .before .before .before .before .whole .ensures) ∙ c .before .before .before .before .before .before .before .before .before .if1 .taken) (bytes-of (c .before .before .before .before .before .before .before .before .before .before .before .before .before .args .s .now) (c .before .before .before .before .before .before .before .before .before .before .before .before .slice-known .given)) (getMut (c .before .before .before .before .before .before .before .before .before .before .before .before .before .args .key) (c .before .before .before .before .before .before .before .before .before .before .before .before .before .args .value)) _ (get-mut-at (read (c .before .before .before .before .before .before .before .before .before .before .before .before .before .args .s .now)) (c .before .before .before .before .before .before .before .before .before .before .before .before .before .args .key) (c .before .before .before .before .before .p .given .0 .0) _ (holding (read (c .before .before .before .before .before .before .before .before .before .before .before .before .before .args .s .now)) (c .before .before .before .before .before .before .before .before .before .before .before .before .before .args .key) (c .before .before .before .before .before .p .given .0 .0) _ (located (read (c .before .before .before .before .before .before .before .before .before .before .before .before .before .args .s .now)) (c .before .before .before .before .before .before .before .before .before .before .before .before .before .args .key) (c .before .before .before .before .before .p .given .0 .0) (sym (c .before .before .before .before .before .before .before .get-index .ensures) ∙ c .before .before .before .before .before .p .given .1)) (held-spent (slot (read (c .before .before .before .before .before .before .before .before .before .before .before .before .before .args .s .now)) (c .before .before .before .before .before .p .given .0 .0)) _ (sym (c .before .before .held-at .ensures) ∙ c .enum-told2 .given .1))) (c .before .before .before .before .before .before .before .before .before .before .before .before .before .args .value))
-
-same-length-4 : tie.Need-same-length-4
-same-length-4 c = search needs
+returns-3 c =
+    let a = c .before .before .before .before .before .args in
+    let e = finds-value (a .s .now) (a .key) (c .before .before .find-value .ensures) (c .enum-told2 .given .1) in
+    stays (a .s .now) (e .0) (getMut (a .key) (a .value)) (bytes-of (a .s .now) (c .before .before .before .before .slice-known .given)) _ (get-mut-is (read (a .s .now)) (a .key) _ (e .1) (a .value))
 
 returns-4 : tie.Need-returns-4
-returns-4 c = stays (c .before .before .before .before .before .before .before .before .before .before .before .before .before .args .s .now) (sym (c .before .before .before .before .before .before .before .before .before .before .whole .ensures) ∙ c .before .before .before .before .before .before .before .before .before .if1 .taken) (bytes-of (c .before .before .before .before .before .before .before .before .before .before .before .before .before .args .s .now) (c .before .before .before .before .before .before .before .before .before .before .before .before .slice-known .given)) (getMut (c .before .before .before .before .before .before .before .before .before .before .before .before .before .args .key) (c .before .before .before .before .before .before .before .before .before .before .before .before .before .args .value)) _ (get-mut-at (read (c .before .before .before .before .before .before .before .before .before .before .before .before .before .args .s .now)) (c .before .before .before .before .before .before .before .before .before .before .before .before .before .args .key) (c .before .before .before .before .before .p .given .0 .0) _ (holding (read (c .before .before .before .before .before .before .before .before .before .before .before .before .before .args .s .now)) (c .before .before .before .before .before .before .before .before .before .before .before .before .before .args .key) (c .before .before .before .before .before .p .given .0 .0) _ (located (read (c .before .before .before .before .before .before .before .before .before .before .before .before .before .args .s .now)) (c .before .before .before .before .before .before .before .before .before .before .before .before .before .args .key) (c .before .before .before .before .before .p .given .0 .0) (sym (c .before .before .before .before .before .before .before .get-index .ensures) ∙ c .before .before .before .before .before .p .given .1)) (held-free (slot (read (c .before .before .before .before .before .before .before .before .before .before .before .before .before .args .s .now)) (c .before .before .before .before .before .p .given .0 .0)) (sym (c .before .before .held-at .ensures) ∙ c .enum-told3 .given .1))) (c .before .before .before .before .before .before .before .before .before .before .before .before .before .args .value))
-
-same-length-5 : tie.Need-same-length-5
-same-length-5 c = search needs
-
-returns-5 : tie.Need-returns-5
-returns-5 c = stays (c .before .before .before .before .before .before .before .before .args .s .now) (sym (c .before .before .before .before .before .whole .ensures) ∙ c .before .before .before .before .if1 .taken) (bytes-of (c .before .before .before .before .before .before .before .before .args .s .now) (c .before .before .before .before .before .before .before .slice-known .given)) (getMut (c .before .before .before .before .before .before .before .before .args .key) (c .before .before .before .before .before .before .before .before .args .value)) _ (get-mut-none (read (c .before .before .before .before .before .before .before .before .args .s .now)) (c .before .before .before .before .before .before .before .before .args .key) (absent (read (c .before .before .before .before .before .before .before .before .args .s .now)) (c .before .before .before .before .before .before .before .before .args .key) (sym (c .before .before .get-index .ensures) ∙ c .enum-told4 .given .1)) (c .before .before .before .before .before .before .before .before .args .value))
+returns-4 c =
+    let a = c .before .before .before .before .before .args in
+    let e = finds-value (a .s .now) (a .key) (c .before .before .find-value .ensures) (c .enum-told3 .given .1) in
+    unwhole (getMut (a .key) (a .value)) (a .s .now) e
 
 pub get-mut-spec : {M : Type 1} → statement M
 get-mut-spec =
-    tie.close
-    (tie.spec
-    whole-requires
-    same-length
-    returns
-    get-index-requires
-    enum-known-p
-    held-at-requires
-    enum-told
-    store-value-requires
-    enum-told-2
-    enum-told-3
-    enum-told-4
-    same-length-2
-    returns-2
-    same-length-3
-    returns-3
-    same-length-4
-    returns-4
-    same-length-5
-    returns-5)
+    tie.close (tie.spec (λ c κs. search needs) (λ c. search needs) store-value-requires (λ c. search needs) (λ c. search needs) (λ c. search needs)
+    (λ c. search needs) returns (λ c. search needs) returns-2 (λ c. search needs) returns-3 (λ c. search needs) returns-4)

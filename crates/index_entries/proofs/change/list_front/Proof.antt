@@ -1,57 +1,21 @@
 use borrow.Author.Needs.{needs}
 use native.Mathlib.Omega.{arith}
-use Prim.Native.Nat.{ℕ, _+_, _-_, _*_}
-use mathlib.Core.Path.{_≡_, refl, sym, ap, _∙_, subst}
-use Rattle.state.proofs.Tests.{byte-fits}
-use Rattle.index_entries.proofs.Facts.{facts-of}
-use borrow.Rule.Slice.PartMut.{same-len-mid}
-use Rattle.multi_cycle_list.specs.Lists.{without-entry, movedFront, movedBack}
-use Rattle.index_entries.specs.Bytes.{entries}
-use Rattle.index_entries.proofs.Acts.{lent-whole, put-list}
+use Rattle.multi_cycle_list.specs.Lists.{movedFront}
+use Rattle.index_entries.proofs.Acts.{lent-class, lent-entry, put-list}
 use Rattle.index_entries.proofs.change.list_front.Statement.{statement}
 use Rattle.index_entries.proofs.change.list_front.Tie as tie
 
-slice-read-n : tie.Need-slice-read-n
-slice-read-n c = let f = facts-of (c .before .before .args .s .now) (c .before .before .pre .0) in omega (arith, f .len, f .few, f .low)
-
-cast-n : tie.Need-cast-n
-cast-n c = byte-fits (c .slice-known2 .given _)
-
-mul-e : tie.Need-mul-e
-mul-e c = let f = facts-of (c .before .before .args .s .now) (c .before .before .pre .0) in omega (arith, f .len, f .few, f .low)
-
-add-e : tie.Need-add-e
-add-e c = let f = facts-of (c .before .before .args .s .now) (c .before .before .pre .0) in omega (arith, f .len, f .few, f .low)
-
-sub-inner-move-front : tie.Need-sub-inner-move-front
-sub-inner-move-front c = search needs
-
-part-inner-move-front-start : tie.Need-part-inner-move-front-start
-part-inner-move-front-start c = search needs
-
-part-inner-move-front-end : tie.Need-part-inner-move-front-end
-part-inner-move-front-end c = let f = facts-of (c .before .before .args .s .now) (c .before .before .pre .0) in omega (arith, f .len, f .few, f .low)
-
 inner-move-front-requires : tie.Need-inner-move-front-requires
-inner-move-front-requires c κs = let w = (lent-whole (c .before .before .before .args .s .now) (c .before .before .before .pre .0) (8 + 2 * entries (c .before .before .before .args .s .now) - 2) (omega arith)) in (w .0, (omega (arith, w .1 .0), omega (arith, w .1 .1)))
-
-same-length : tie.Need-same-length
-same-length c = same-len-mid 2 (8 + 2 * entries (c .before .before .before .before .before .before .args .s .now) - 2) (c .before .before .before .before .before .before .args .s .now) (c .before .before .inner-move-front .last .0) (c .before .before .inner-move-front .kept .0)
+inner-move-front-requires c κs =
+    let a = c .before .before .before .before .args in
+    let w = lent-class (a .s .now) (c .before .before .before .before .pre .0) _ (c .before .lists-end .ensures .0) 0 (omega arith) in
+    (w .0, (w .1, lent-entry (a .s .now) (c .before .before .before .before .pre .0) _ (c .before .lists-end .ensures .0) (a .i) (c .before .before .before .before .pre .1)))
 
 returns : tie.Need-returns
-returns c = put-list (c .before .before .before .before .before .before .args .s .now) (c .before .before .before .before .before .before .pre .0) (8 + 2 * entries (c .before .before .before .before .before .before .args .s .now) - 2) (omega arith) (λ l. movedFront 0 (c .before .before .before .before .before .before .args .i) l) (c .before .before .inner-move-front .last .0) (c .before .before .inner-move-front .ensures)
+returns c =
+    let a = c .before .before .before .before .before .before .before .args in
+    put-list (a .s .now) (c .before .before .before .before .before .before .before .pre .0) _ (c .before .before .before .before .lists-end .ensures .0) (λ l. movedFront 0 (a .i) l) (c .before .before .inner-move-front .last .0) (c .before .before .inner-move-front .ensures)
 
 pub list-front-spec : {M : Type 1} → statement M
 list-front-spec =
-    tie.close
-    (tie.spec
-    slice-read-n
-    cast-n
-    mul-e
-    add-e
-    sub-inner-move-front
-    part-inner-move-front-start
-    part-inner-move-front-end
-    inner-move-front-requires
-    same-length
-    returns)
+    tie.close (tie.spec (λ c κs. search needs) (λ c. search needs) (λ c. search needs) (λ c. search needs) inner-move-front-requires (λ c. search needs) returns)

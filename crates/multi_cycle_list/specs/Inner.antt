@@ -46,12 +46,16 @@ aloneTo s (suc k) = setPrev (setNext (aloneTo s k) k k) k k
 
 -- ---- the test of wholeness
 
--- the node after i, and before i; n where the link leads out of the n nodes or does not come back
+-- where the link of the node i at out leads; n where it leads out of the n nodes or the link at back there does not come back
+abbrev pub linked : List ℕ → ℕ → ℕ → ℕ → ℕ → ℕ
+linked s n i out back = cond (ltb (getD s (out + 2 * i) 0) n && eqb (getD s (back + 2 * getD s (out + 2 * i) 0) 0) i) (getD s (out + 2 * i) 0) n
+
+-- the node after i, and before i, or n
 abbrev pub ahead : List ℕ → ℕ → ℕ → ℕ
-ahead s n i = cond (ltb (next s i) n && eqb (prev s (next s i)) i) (next s i) n
+ahead s n i = linked s n i 2 3
 
 abbrev pub behind : List ℕ → ℕ → ℕ → ℕ
-behind s n i = cond (ltb (prev s i) n && eqb (next s (prev s i)) i) (prev s i) n
+behind s n i = linked s n i 3 2
 
 -- whether two ends met, and the marks
 pub record Trail : Type 0 where

@@ -2,8 +2,8 @@ use borrow.Author.Needs.{needs}
 use Rattle.state.proofs.Tests.{byte-fits}
 use mathlib.Core.Bool.{and-false}
 use borrow.Author.Tests.{lt-ltb, le-ltb, eq-eqb, ne-eqb}
-use Rattle.multi_cycle_list.proofs.whole.ahead.Statement.{statement}
-use Rattle.multi_cycle_list.proofs.whole.ahead.Tie as tie
+use Rattle.multi_cycle_list.proofs.whole.linked.Statement.{statement}
+use Rattle.multi_cycle_list.proofs.whole.linked.Tie as tie
 
 mul-a : tie.Need-mul-a
 mul-a c = search needs
@@ -38,8 +38,8 @@ returns-2 c = simp (ne-eqb _ _ (c .if2 .taken), and-false)
 returns-3 : tie.Need-returns-3
 returns-3 c = simp (lt-ltb _ _ (c .before .before .if1 .left), eq-eqb _ _ (c .if2 .left))
 
-pub ahead-spec : {M : Type 1} → statement M
-ahead-spec =
+pub linked-spec : {M : Type 1} → statement M
+linked-spec =
     tie.close
     (tie.spec
     mul-a

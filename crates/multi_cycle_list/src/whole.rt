@@ -1,4 +1,5 @@
 // Whether bytes are a whole list queue.
+use crate::cycle::link_at;
 ghost use mathlib.Core.Path.{_≡_};
 ghost use mathlib.Core.Bool.{true};
 ghost use Prim.Native.Nat.{_+_, _*_, _<_, _≤_};
@@ -32,11 +33,11 @@ fn linked(s: &[u8], n: usize, i: usize, out: usize, back: usize) -> usize
     requires { ⌜ (i < n) × ((length (now s) ≡ 2 + 2 * n) × ((out ≤ 3) × (back ≤ 3))) ⌝ }
     ensures { λ r. ⌜ r ≡ linked (now (s .entry)) n i out back ⌝ }
 {
-    let a = s[out + 2 * i] as usize;
+    let a = link_at(s, i, out);
     if n <= a {
         return n;
     }
-    if s[back + 2 * a] as usize != i {
+    if link_at(s, a, back) != i {
         return n;
     }
     a
@@ -119,10 +120,10 @@ fn is_placed(s: &[u8], seen: &[u8], x: usize) -> bool
     if seen[x] != 0 {
         return true;
     }
-    if s[2 + 2 * x] as usize != x {
+    if link_at(s, x, 2) != x {
         return false;
     }
-    s[3 + 2 * x] as usize == x
+    link_at(s, x, 3) == x
 }
 
 fn all_placed(s: &[u8], seen: &[u8], c: usize, e: usize) -> bool

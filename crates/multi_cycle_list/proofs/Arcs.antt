@@ -58,39 +58,44 @@ outs : List Arc → ℕ → ℕ
 outs [] i = 0
 outs (arc a b ∷ l) i = tick a i (outs l i)
 
-ins : List Arc → ℕ → ℕ
-ins [] i = 0
-ins (arc a b ∷ l) i = tick b i (ins l i)
+-- each arc the other way: the arcs to a node are then those from it
+reversed : List Arc → List Arc
+reversed [] = []
+reversed (arc a b ∷ l) = arc b a ∷ reversed l
 
-has-outs : (a b : ℕ) (l : List Arc) → Has a b l → (1 ≤ outs l a) × (1 ≤ ins l b)
-unfolding outs ins
-has-outs a b [] h = absurd h
-has-outs a b (arc x y ∷ l) h =
-    ⊎-elim
-    (λ q. (omega (arith, tick-same x a (outs l a) (q .0)), omega (arith, tick-same y b (ins l b) (q .1))))
-    (λ j. let w = has-outs a b l j in (
-      elim (ℕ-discrete x a) [ yes q ↦ omega (arith, tick-same x a (outs l a) q) | no q ↦ omega (arith, w .0, tick-other x a (outs l a) q) ],
-      elim (ℕ-discrete y b) [ yes q ↦ omega (arith, tick-same y b (ins l b) q) | no q ↦ omega (arith, w .1, tick-other y b (ins l b) q) ],
-    ))
-    h
+abbrev ins : List Arc → ℕ → ℕ
+ins l i = outs (reversed l) i
+
+before-reversed : (l : List Arc) (i : ℕ) → before l i ≡ after (reversed l) i
+unfolding reversed before after
+before-reversed [] i = refl
+before-reversed (arc a b ∷ l) i = ap (cond (eqb b i) a) (before-reversed l i)
+
+has-reversed : (a b : ℕ) (l : List Arc) → Has a b l → Has b a (reversed l)
+unfolding reversed
+has-reversed a b [] h = absurd h
+has-reversed a b (arc x y ∷ l) h = ⊎-elim (λ q. inl (q .1, q .0)) (λ j. inr (has-reversed a b l j)) h
+
+has-out : (a b : ℕ) (l : List Arc) → Has a b l → 1 ≤ outs l a
+unfolding outs
+has-out a b [] h = absurd h
+has-out a b (arc x y ∷ l) h =
+    elim (ℕ-discrete x a) [
+      | yes q ↦ omega (arith, tick-same x a (outs l a) q)
+      | no q ↦ ⊎-elim (λ p. absurd (q (p .0))) (λ j. omega (arith, has-out a b l j, tick-other x a (outs l a) q)) h
+    ]
 
 after-is : (a b : ℕ) (l : List Arc) → Has a b l → outs l a ≤ 1 → after l a ≡ b
 unfolding outs after
 after-is a b [] h w = absurd h
 after-is a b (arc x y ∷ l) h w =
     elim (ℕ-discrete x a) [
-      | yes q ↦ rw (eq-eqb x a q) (⊎-elim (λ p. p .1) (λ j. absurd (omega (arith, w, tick-same x a (outs l a) q, has-outs a b l j .0))) h)
+      | yes q ↦ rw (eq-eqb x a q) (⊎-elim (λ p. p .1) (λ j. absurd (omega (arith, w, tick-same x a (outs l a) q, has-out a b l j))) h)
       | no q ↦ rw (ne-eqb x a q) (⊎-elim (λ p. absurd (q (p .0))) (λ j. after-is a b l j (omega (arith, w, tick-other x a (outs l a) q))) h)
     ]
 
 before-is : (a b : ℕ) (l : List Arc) → Has a b l → ins l b ≤ 1 → before l b ≡ a
-unfolding ins before
-before-is a b [] h w = absurd h
-before-is a b (arc x y ∷ l) h w =
-    elim (ℕ-discrete y b) [
-      | yes q ↦ rw (eq-eqb y b q) (⊎-elim (λ p. p .0) (λ j. absurd (omega (arith, w, tick-same y b (ins l b) q, has-outs a b l j .1))) h)
-      | no q ↦ rw (ne-eqb y b q) (⊎-elim (λ p. absurd (q (p .1))) (λ j. before-is a b l j (omega (arith, w, tick-other y b (ins l b) q))) h)
-    ]
+before-is a b l h w = before-reversed l b ∙ after-is b a (reversed l) (has-reversed a b l h) w
 
 after-none : (l : List Arc) (i : ℕ) → outs l i ≡ 0 → after l i ≡ i
 unfolding outs after
@@ -102,22 +107,21 @@ after-none (arc x y ∷ l) i h =
     ]
 
 before-none : (l : List Arc) (i : ℕ) → ins l i ≡ 0 → before l i ≡ i
-unfolding ins before
-before-none [] i h = refl
-before-none (arc x y ∷ l) i h =
-    elim (ℕ-discrete y i) [
-      | yes q ↦ absurd (omega (arith, h, tick-same y i (ins l i) q))
-      | no q ↦ rw (ne-eqb y i q) (before-none l i (omega (arith, h, tick-other y i (ins l i) q)))
-    ]
+before-none l i h = before-reversed l i ∙ after-none (reversed l) i h
+
+outs-more : (xs ys : List Arc) (i : ℕ) → outs (xs ++ ys) i ≡ outs xs i + outs ys i
+unfolding outs
+outs-more [] ys i = omega arith
+outs-more (arc a b ∷ xs) ys i =
+    elim (ℕ-discrete a i) [ yes q ↦ rw (eq-eqb a i q) (omega (arith, outs-more xs ys i)) | no q ↦ rw (ne-eqb a i q) (outs-more xs ys i) ]
+
+reversed-more : (xs ys : List Arc) → reversed (xs ++ ys) ≡ reversed xs ++ reversed ys
+unfolding reversed
+reversed-more [] ys = refl
+reversed-more (arc a b ∷ xs) ys = ap (λ (l : List Arc). arc b a ∷ l) (reversed-more xs ys)
 
 both-more : (xs ys : List Arc) (i : ℕ) → (outs (xs ++ ys) i ≡ outs xs i + outs ys i) × (ins (xs ++ ys) i ≡ ins xs i + ins ys i)
-unfolding outs ins
-both-more [] ys i = (omega arith, omega arith)
-both-more (arc a b ∷ xs) ys i =
-    let w = both-more xs ys i in (
-      elim (ℕ-discrete a i) [ yes q ↦ rw (eq-eqb a i q) (omega (arith, w .0)) | no q ↦ rw (ne-eqb a i q) (w .0) ],
-      elim (ℕ-discrete b i) [ yes q ↦ rw (eq-eqb b i q) (omega (arith, w .1)) | no q ↦ rw (ne-eqb b i q) (w .1) ],
-    )
+both-more xs ys i = (outs-more xs ys i, ap (λ (l : List Arc). outs l i) (reversed-more xs ys) ∙ outs-more (reversed xs) (reversed ys) i)
 
 has-left : (a b : ℕ) (xs ys : List Arc) → Has a b xs → Has a b (xs ++ ys)
 has-left a b [] ys h = absurd h
@@ -142,7 +146,7 @@ module _ (C : ℕ) where
       ])
 
   path-ins : (es : List ℕ) (a b e : ℕ) → b < C → ins (path C a es b) (C + e) ≡ count e es
-  unfolding ins path count
+  unfolding outs reversed path count
   path-ins [] a b e h = tick-other b (C + e) 0 (omega arith)
   path-ins (x ∷ xs) a b e h =
       elim (ℕ-discrete x e) [
@@ -151,7 +155,7 @@ module _ (C : ℕ) where
       ]
 
   path-class : (es : List ℕ) (a b c : ℕ) → c < C → (outs (path C a es b) c ≡ tick a c 0) × (ins (path C a es b) c ≡ tick b c 0)
-  unfolding outs ins path
+  unfolding outs reversed path
   path-class [] a b c h = (refl, refl)
   path-class (x ∷ xs) a b c h =
       let w = path-class xs (C + x) b c h in (
@@ -160,7 +164,7 @@ module _ (C : ℕ) where
       )
 
   arcs-entry : (rs : List (List ℕ)) (k e : ℕ) → k + length rs ≤ C → (outs (arcs C k rs) (C + e) ≡ counts e rs) × (ins (arcs C k rs) (C + e) ≡ counts e rs)
-  unfolding outs ins arcs counts
+  unfolding outs reversed arcs counts
   arcs-entry [] k e h = (refl, refl)
   arcs-entry (r ∷ rs) k e h =
       let w = arcs-entry rs (suc k) e (omega arith) in
@@ -170,7 +174,7 @@ module _ (C : ℕ) where
       )
 
   arcs-early : (rs : List (List ℕ)) (k c : ℕ) → c < C → c < k → (outs (arcs C k rs) c ≡ 0) × (ins (arcs C k rs) c ≡ 0)
-  unfolding outs ins arcs
+  unfolding outs reversed arcs
   arcs-early [] k c h l = (refl, refl)
   arcs-early (r ∷ rs) k c h l =
       let w = arcs-early rs (suc k) c h (omega arith) in
@@ -180,7 +184,7 @@ module _ (C : ℕ) where
       (omega (arith, m .0, w .0, p .0, t), omega (arith, m .1, w .1, p .1, t))
 
   arcs-class : (rs : List (List ℕ)) (k c : ℕ) → c < C → (outs (arcs C k rs) c ≤ 1) × (ins (arcs C k rs) c ≤ 1)
-  unfolding outs ins arcs
+  unfolding outs reversed arcs
   arcs-class [] k c h = (zero-le, zero-le)
   arcs-class (r ∷ rs) k c h =
       let m = both-more (path C k r k) (arcs C (suc k) rs) c in

@@ -131,73 +131,57 @@ module _ (C : ℕ) (nx pv nx′ pv′ : ℕ → ℕ) (e : ℕ) (u : Unbinds nx p
   pub chain-without : (es : List ℕ) (a b : ℕ) → a ≢ C + e → b ≢ C + e → Chain C nx pv a es b → Chain C nx′ pv′ a (without e es) b
   chain-without es a b na nb p = both es b nb .from a na p
 
--- ---- the lone node x put in after q, or before q
+-- ---- the lone node x put in between a and b
 
-pub record BindsAfter (nx pv nx′ pv′ : ℕ → ℕ) (x q : ℕ) : Type 0 where
-  pub lone-n : nx x ≡ x
-  pub lone-p : pv x ≡ x
-  pub apart : q ≢ x
-  pub back : pv (nx q) ≡ q
-  pub n-at : nx′ x ≡ nx q
-  pub n-q : nx′ q ≡ x
-  pub n-other : (a : ℕ) → a ≢ x → a ≢ q → nx′ a ≡ nx a
-  pub p-at : pv′ x ≡ q
-  pub p-next : pv′ (nx q) ≡ x
-  pub p-other : (b : ℕ) → b ≢ x → b ≢ nx q → pv′ b ≡ pv b
+pub record Binds (nx pv nx′ pv′ : ℕ → ℕ) (x a b : ℕ) : Type 0 where
+  pub lone : Link nx pv x x
+  pub cut : Link nx pv a b
+  pub n-a : nx′ a ≡ x
+  pub n-at : nx′ x ≡ b
+  pub n-other : (c : ℕ) → c ≢ x → c ≢ a → nx′ c ≡ nx c
+  pub p-b : pv′ b ≡ x
+  pub p-at : pv′ x ≡ a
+  pub p-other : (c : ℕ) → c ≢ x → c ≢ b → pv′ c ≡ pv c
 
-module _ (C : ℕ) (nx pv nx′ pv′ : ℕ → ℕ) (e q : ℕ) (hq : q < C) (u : BindsAfter nx pv nx′ pv′ (C + e) q) where
-  pub after-link : (a b : ℕ) → Link nx pv a b → a ≢ C + e → a ≢ q → Link nx′ pv′ a b
-  after-link a b l na nq = (
-    u .n-other a na nq ∙ l .0,
-    u .p-other b (λ z. na (sym (l .1) ∙ ap pv z ∙ u .lone-p)) (λ z. nq (sym (l .1) ∙ ap pv z ∙ u .back)) ∙ l .1,
+module _ (C : ℕ) (nx pv nx′ pv′ : ℕ → ℕ) (e a b : ℕ) (u : Binds nx pv nx′ pv′ (C + e) a b) where
+  bound-link : (c d : ℕ) → Link nx pv c d → c ≢ C + e → c ≢ a → Link nx′ pv′ c d
+  bound-link c d l ne na = (
+    u .n-other c ne na ∙ l .0,
+    u .p-other d (λ z. ne (sym (l .1) ∙ ap pv z ∙ u .lone .1)) (λ z. na (sym (l .1) ∙ ap pv z ∙ u .cut .1)) ∙ l .1,
   )
 
-  pub after-chain : (es : List ℕ) (a b : ℕ) → a ≢ C + e → a ≢ q → (In e es → ⊥) → Chain C nx pv a es b → Chain C nx′ pv′ a es b
-  after-chain [] a b na nq out p = after-link a b p na nq
-  after-chain (y ∷ ys) a b na nq out p = (
-    after-link a (C + y) (p .0) na nq,
-    after-chain ys (C + y) b (λ z. out (inl (omega arith))) (omega arith) (λ i. out (inr i)) (p .1),
+  -- what leads elsewhere than to b does not come from a
+  not-from : (c d : ℕ) → Link nx pv c d → d ≢ b → c ≢ a
+  not-from c d l nb z = nb (sym (l .0) ∙ ap nx z ∙ u .cut .0)
+
+  -- the links that stay where a or b is the class q: those that touch no q, and from another node to q where a is q
+  pub kept : (q : ℕ) → (a ≡ q) ⊎ (b ≡ q) → (c d : ℕ) → Link nx pv c d → c ≢ C + e → c ≢ q → (a ≡ q) ⊎ (d ≢ q) → Link nx′ pv′ c d
+  kept q t c d l ne nc nd =
+      let from : a ≡ q → c ≢ a = λ y z. nc (z ∙ y) in
+      bound-link c d l ne (⊎-elim from (λ (n : d ≢ q). ⊎-elim from (λ y. not-from c d l (λ z. n (z ∙ y))) t) nd)
+
+  pub kept-chain : (q : ℕ) → q < C → (a ≡ q) ⊎ (b ≡ q) → (es : List ℕ) (c d : ℕ) → Chain C nx pv c es d → c ≢ C + e → c ≢ q → (a ≡ q) ⊎ (d ≢ q) → (In e es → ⊥)
+      → Chain C nx′ pv′ c es d
+  kept-chain q hq t [] c d p ne nc nd out = kept q t c d p ne nc nd
+  kept-chain q hq t (y ∷ ys) c d p ne nc nd out = (
+    kept q t c (C + y) (p .0) ne nc (inr (omega arith)),
+    kept-chain q hq t ys (C + y) d (p .1) (λ z. out (inl (omega arith))) (omega arith) nd (λ i. out (inr i)),
   )
 
-  pub after-front : (es : List ℕ) → (In e es → ⊥) → Chain C nx pv q es q → Chain C nx′ pv′ q (e ∷ es) q
-  after-front [] out p = ((u .n-q, u .p-at), (u .n-at ∙ p .0, ap pv′ (sym (p .0)) ∙ u .p-next))
-  after-front (y ∷ ys) out p = (
-    (u .n-q, u .p-at),
-    (
-      (u .n-at ∙ p .0 .0, ap pv′ (sym (p .0 .0)) ∙ u .p-next),
-      after-chain ys (C + y) q (λ z. out (inl (omega arith))) (omega arith) (λ i. out (inr i)) (p .1),
-    ),
-  )
+  -- from x on to where a led
+  on : (d : ℕ) → nx a ≡ d → Link nx′ pv′ (C + e) d
+  on d h = (u .n-at ∙ sym (u .cut .0) ∙ h, ap pv′ (sym h ∙ u .cut .0) ∙ u .p-b)
 
-pub record BindsBefore (nx pv nx′ pv′ : ℕ → ℕ) (x q : ℕ) : Type 0 where
-  pub lone-n : nx x ≡ x
-  pub lone-p : pv x ≡ x
-  pub apart : q ≢ x
-  pub forth : nx (pv q) ≡ q
-  pub n-at : nx′ x ≡ q
-  pub n-prev : nx′ (pv q) ≡ x
-  pub n-other : (a : ℕ) → a ≢ x → a ≢ pv q → nx′ a ≡ nx a
-  pub p-at : pv′ x ≡ pv q
-  pub p-q : pv′ q ≡ x
-  pub p-other : (b : ℕ) → b ≢ x → b ≢ q → pv′ b ≡ pv b
+  pub bound-front : a < C → (es : List ℕ) → (In e es → ⊥) → Chain C nx pv a es a → Chain C nx′ pv′ a (e ∷ es) a
+  bound-front h [] out p = ((u .n-a, u .p-at), on a (p .0))
+  bound-front h (y ∷ ys) out p =
+      ((u .n-a, u .p-at), (on (C + y) (p .0 .0), kept-chain a h (inl refl) ys (C + y) a (p .1) (λ z. out (inl (omega arith))) (omega arith) (inl refl) (λ i. out (inr i))))
 
-module _ (C : ℕ) (nx pv nx′ pv′ : ℕ → ℕ) (e q : ℕ) (hq : q < C) (u : BindsBefore nx pv nx′ pv′ (C + e) q) where
-  pub before-link : (a b : ℕ) → Link nx pv a b → b ≢ C + e → b ≢ q → Link nx′ pv′ a b
-  before-link a b l nb nq = (
-    u .n-other a (λ z. nb (sym (l .0) ∙ ap nx z ∙ u .lone-n)) (λ z. nq (sym (l .0) ∙ ap nx z ∙ u .forth)) ∙ l .0,
-    u .p-other b nb nq ∙ l .1,
-  )
-
-  pub before-chain : (es : List ℕ) (a b : ℕ) → b ≢ C + e → b ≢ q → (In e es → ⊥) → Chain C nx pv a es b → Chain C nx′ pv′ a es b
-  before-chain [] a b nb nq out p = before-link a b p nb nq
-  before-chain (y ∷ ys) a b nb nq out p = (
-    before-link a (C + y) (p .0) (λ z. out (inl (omega arith))) (omega arith),
-    before-chain ys (C + y) b nb nq (λ i. out (inr i)) (p .1),
-  )
-
-  pub before-back : (es : List ℕ) (a : ℕ) → (In e es → ⊥) → Chain C nx pv a es q → Chain C nx′ pv′ a (es ++ (e ∷ [])) q
-  before-back [] a out p = ((ap nx′ (sym (p .1)) ∙ u .n-prev, u .p-at ∙ p .1), (u .n-at, u .p-q))
-  before-back (y ∷ ys) a out p = (
-    before-link a (C + y) (p .0) (λ z. out (inl (omega arith))) (omega arith),
-    before-back ys (C + y) (λ i. out (inr i)) (p .1),
+  pub bound-back : b < C → (es : List ℕ) (c : ℕ) → c ≢ C + e → (In e es → ⊥) → Chain C nx pv c es b → Chain C nx′ pv′ c (es ++ (e ∷ [])) b
+  bound-back h [] c ne out p =
+      let q : c ≡ a = sym (p .1) ∙ u .cut .1 in
+      ((ap nx′ q ∙ u .n-a, u .p-at ∙ sym q), (u .n-at, u .p-b))
+  bound-back h (y ∷ ys) c ne out p = (
+    bound-link c (C + y) (p .0) ne (not-from c (C + y) (p .0) (omega arith)),
+    bound-back h ys (C + y) (λ z. out (inl (omega arith))) (λ i. out (inr i)) (p .1),
   )

@@ -1,7 +1,7 @@
 -- What the stores come to: the answers and the bytes of plain lists.
-use Prim.Native.Nat.{ℕ, zero, suc, _+_, _-_, _<_}
+use Prim.Native.Nat.{ℕ, zero, suc, _+_, _<_}
 use mathlib.Core.Path.{_≡_, refl, sym, ap, _∙_, subst}
-use mathlib.Core.Logic.{_⊎_, ⊎-elim}
+use mathlib.Core.Logic.{⊎-elim}
 use mathlib.Core.List.{List, [], _∷_, _++_}
 use mathlib.Core.Bool.{true, not}
 use native.Mathlib.Omega.{arith}
@@ -13,7 +13,7 @@ use Rattle.state.specs.Lengths.{listsAllowed, listsLength}
 use Rattle.state.specs.Seq.{each}
 use Rattle.state.proofs.Seq.{length-each}
 use Rattle.multi_cycle_list.specs.Nodes.{classes, entries, next, prev, wholeB, listOf, listsOf, read}
-use Rattle.multi_cycle_list.specs.Inner.{unbindB, moveAfterB, moveBeforeB, aloneTo}
+use Rattle.multi_cycle_list.specs.Inner.{unbindB, bindB, aloneTo, asEntry, Taken}
 use Rattle.multi_cycle_list.specs.Lists.{Lists, Valid, counts, row, first, last, removed, pushedFront, pushedBack, withRows, without-entry, movedFront, movedBack, empty}
 use Rattle.multi_cycle_list.specs.Laid.{laid}
 use Rattle.multi_cycle_list.proofs.WholeTools.{whole-sizes, allowed-of}
@@ -21,8 +21,8 @@ use Rattle.multi_cycle_list.specs.declared.inner.MaybeEntry.the-variants
 use Rattle.multi_cycle_list.proofs.Lists.{Below, In, in-count}
 use Rattle.multi_cycle_list.proofs.Chain.{Chain, tail-from}
 use Rattle.multi_cycle_list.proofs.Arcs.{row-count, counts-in}
-use Rattle.multi_cycle_list.proofs.Sound.{sound}
-use Rattle.multi_cycle_list.proofs.Meaning.{Turned, turned-whole, turned-lists, unbound, removed-is, front-turned, back-turned, pushed-is, taken-is, list-at, asEntry, first-from, first-of, last-of}
+use Rattle.multi_cycle_list.proofs.Sound.{sound, whole-around}
+use Rattle.multi_cycle_list.proofs.Meaning.{Turned, turned-whole, turned-lists, nodeOf, unbound, unbound-turned, removed-is, front-turned, back-turned, pushed-is, taken-is, list-at, first-from, first-of, last-of}
 use Rattle.multi_cycle_list.proofs.FreshMeaning.{opened}
 use Rattle.multi_cycle_list.proofs.Laid.{lists, laid-read, laid-whole, read-laid, read-valid}
 
@@ -101,19 +101,38 @@ turned-laid s t ls h w rs q =
     record { is = sym (laid-read t z) ∙ ap (λ (m : Lists). laid m) r; valid = subst (λ (m : Lists). Valid m) r (read-valid t z) }
 
 module _ (s : List ℕ) (e : ℕ) (h : wholeB s ≡ true) (he : e < entries s) where
-  pub remove-laid : Lays (unbindB s (classes s + e)) (withRows (read s) (removed e (listsOf s)))
-  remove-laid = turned-laid s _ _ h (unbound s e h he) _ (removed-is s e h he)
+  pub remove-laid : Lays (unbound s e) (withRows (read s) (removed e (listsOf s)))
+  remove-laid = turned-laid s _ _ h (unbound-turned s e h he) _ (removed-is s e h he)
 
   module _ (c : ℕ) (hc : c < classes s) where
-    pub front-laid : Lays (moveAfterB s (classes s + e) c) (withRows (read s) (pushedFront c e (removed e (listsOf s))))
+    pub front-laid : Lays (bindB (unbound s e) (nodeOf s e) c (next (unbound s e) c)) (withRows (read s) (pushedFront c e (removed e (listsOf s))))
     front-laid =
         turned-laid s _ _ h (front-turned s e h he c hc) _
         (pushed-is s e h he c hc _ ∙ ap (λ (l : List ℕ). set (removed e (listsOf s)) c (e ∷ l)) (taken-is s e h he c hc))
 
-    pub back-laid : Lays (moveBeforeB s (classes s + e) c) (withRows (read s) (pushedBack c e (removed e (listsOf s))))
+    pub back-laid : Lays (bindB (unbound s e) (nodeOf s e) (prev (unbound s e) c) c) (withRows (read s) (pushedBack c e (removed e (listsOf s))))
     back-laid =
         turned-laid s _ _ h (back-turned s e h he c hc) _
         (pushed-is s e h he c hc _ ∙ ap (λ (l : List ℕ). set (removed e (listsOf s)) c (l ++ (e ∷ []))) (taken-is s e h he c hc))
+
+-- ---- the same, of the bytes as the code has them
+
+module _ (s : List ℕ) (e : ℕ) (h : wholeB s ≡ true) (he : e < entries s) (t : List ℕ) (i : ℕ) where
+  pub taken-of : i ≡ classes s + e → t ≡ unbindB s i → Taken s e t i
+  taken-of n q =
+      let u = unbound-turned s e h he in
+      let r : t ≡ unbound s e = q ∙ ap (unbindB s) n in
+      let w : wholeB t ≡ true = rw r (turned-whole s _ _ (whole-sizes s h) u) in
+      let cs : classes t ≡ classes s = ap classes r ∙ u .same .cs in
+      let es : entries t ≡ entries s = ap entries r ∙ u .same .es in
+      record { node = n; is = r; fits = whole-around t w i (omega arith) .at; around = λ c hc. whole-around t w c (omega arith) }
+
+  module _ (k : Taken s e t i) (c : ℕ) (hc : c < classes s) (x : ℕ) where
+    pub front-moved : x ≡ next t c → bindB t i c x ≡ laid (movedFront c e (read s))
+    front-moved q = ap (bindB t i c) q ∙ ap (λ (j : ℕ). bindB t j c (next t c)) (k .node) ∙ ap (λ (l : List ℕ). bindB l (nodeOf s e) c (next l c)) (k .is) ∙ front-laid s e h he c hc .is
+
+    pub back-moved : x ≡ prev t c → bindB t i x c ≡ laid (movedBack c e (read s))
+    back-moved q = ap (λ (y : ℕ). bindB t i y c) q ∙ ap (λ (j : ℕ). bindB t j (prev t c) c) (k .node) ∙ ap (λ (l : List ℕ). bindB l (nodeOf s e) (prev l c) c) (k .is) ∙ back-laid s e h he c hc .is
 
 -- ---- opening
 

@@ -1,6 +1,6 @@
 -- Fresh bytes are whole, and every class is empty.
 use Prim.Native.Nat.{ℕ, zero, suc, _+_, _-_, _*_, _<_, _≤_}
-use mathlib.Core.Path.{_≡_, sym, ap, _∙_}
+use mathlib.Core.Path.{_≡_, sym, ap, _∙_, subst}
 use mathlib.Core.Logic.{inr}
 use mathlib.Core.List.{List, []}
 use mathlib.Core.Bool.{true}
@@ -10,10 +10,10 @@ use native.Mathlib.Nat.{not-suc-le-zero}
 use lib.ListN.{length, set, length-set}
 use lib.Seq.{getD-set-same, getD-set-other}
 use Rattle.multi_cycle_list.specs.Nodes.{classes, entries, next, prev, wholeB, listsOf, listOf}
-use Rattle.multi_cycle_list.specs.Inner.{setNext, setPrev, aloneTo}
+use Rattle.multi_cycle_list.specs.Inner.{linkB, aloneTo}
 use Rattle.state.specs.Seq.{each}
-use Rattle.multi_cycle_list.proofs.Bytes.{next-same, next-other, next-setPrev, prev-same, prev-other, prev-setNext}
-use Rattle.multi_cycle_list.proofs.Stores.{Same, same-more, same-self}
+use Rattle.multi_cycle_list.proofs.Chain.{Link}
+use Rattle.multi_cycle_list.proofs.Stores.{Same, same-self, link-same, link-next, link-prev}
 use Rattle.multi_cycle_list.proofs.Sound.{Stands, complete, list-is}
 use Rattle.state.proofs.Seq.{each-same}
 
@@ -21,25 +21,19 @@ module _ (s : List ℕ) where
   alone-same : (n : ℕ) → Same (aloneTo s n) s
   unfolding aloneTo
   alone-same zero = same-self s
-  alone-same (suc n) = same-more _ s (3 + 2 * n) _ (omega arith) (same-more _ s (2 + 2 * n) _ (omega arith) (alone-same n))
+  alone-same (suc n) = link-same _ s n n (alone-same n)
 
-  alone-next : (n k : ℕ) → k < n → 2 + 2 * n ≤ length s → next (aloneTo s n) k ≡ k
+  alone-at : (n k : ℕ) → k < n → 2 + 2 * n ≤ length s → Link (next (aloneTo s n)) (prev (aloneTo s n)) k k
   unfolding aloneTo
-  alone-next zero k h l = absurd (not-suc-le-zero h)
-  alone-next (suc n) k h l =
-      next-setPrev (setNext (aloneTo s n) n n) n n k
-      ∙ elim (ℕ-discrete k n) [
-        | yes q ↦ ap (next (setNext (aloneTo s n) n n)) q ∙ next-same (aloneTo s n) n n (omega (arith, alone-same n .len)) ∙ sym q
-        | no q ↦ next-other (aloneTo s n) n n k q ∙ alone-next n k (omega arith) (omega arith)
-      ]
-
-  alone-prev : (n k : ℕ) → k < n → 2 + 2 * n ≤ length s → prev (aloneTo s n) k ≡ k
-  unfolding aloneTo
-  alone-prev zero k h l = absurd (not-suc-le-zero h)
-  alone-prev (suc n) k h l =
+  alone-at zero k h l = absurd (not-suc-le-zero h)
+  alone-at (suc n) k h l =
+      let t = aloneTo s n in
+      let f : 3 + 2 * n < length t = omega (arith, alone-same n .len) in
+      let x = link-next t n n f f in
+      let y = link-prev t n n f f in
       elim (ℕ-discrete k n) [
-        | yes q ↦ ap (prev (setPrev (setNext (aloneTo s n) n n) n n)) q ∙ prev-same (setNext (aloneTo s n) n n) n n (omega (arith, alone-same n .len, length-set (aloneTo s n) (2 + 2 * n) n)) ∙ sym q
-        | no q ↦ prev-other (setNext (aloneTo s n) n n) n n k q ∙ prev-setNext (aloneTo s n) n n k ∙ alone-prev n k (omega arith) (omega arith)
+        | yes q ↦ subst (λ (j : ℕ). Link (next (linkB t n n)) (prev (linkB t n n)) j j) (sym q) (x .at, y .at)
+        | no q ↦ (let w = alone-at n k (omega arith) (omega arith) in (x .other k q ∙ w .0, y .other k q ∙ w .1))
       ]
 
 pub record Opened (t : List ℕ) (c e : ℕ) : Type 0 where
@@ -68,9 +62,9 @@ module _ (s : List ℕ) (c e : ℕ) (h1 : 1 ≤ c) (h2 : c ≤ 32) (h3 : e ≤ 2
       let t = aloneTo h (c + e) in
       let fit : 2 + 2 * (c + e) ≤ length h = omega (arith, len) in
       record {
-        chains = λ k hk. (alone-next h (c + e) k (omega (arith, cs)) fit, alone-prev h (c + e) k (omega (arith, cs)) fit);
+        chains = λ k hk. alone-at h (c + e) k (omega (arith, cs)) fit;
         inside = λ k hk. tt;
-        places = λ k hk. inr (alone-next h (c + e) (classes t + k) (omega (arith, cs, es)) fit, alone-prev h (c + e) (classes t + k) (omega (arith, cs, es)) fit);
+        places = λ k hk. inr (alone-at h (c + e) (classes t + k) (omega (arith, cs, es)) fit);
       }
 
   pub opened : Opened (aloneTo (set (set s 0 c) 1 e) (c + e)) c e

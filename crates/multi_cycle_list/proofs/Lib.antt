@@ -1,4 +1,3 @@
-pub mod Bytes
 pub mod Trace
 pub mod WholeTools
 pub mod Lists

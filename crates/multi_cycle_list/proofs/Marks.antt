@@ -15,7 +15,6 @@ use borrow.Author.Tests.{lt-ltb, le-ltb, le-leb, lt-leb, eq-eqb, ne-eqb, eqb-tru
 use Rattle.state.proofs.Tests.{not-both, and-r, by-cond}
 use Rattle.multi_cycle_list.specs.Nodes.{classes, entries, next, prev, listOf}
 use Rattle.multi_cycle_list.specs.Inner.{ahead, behind, Trail, ended, off, trail, trailAt, unmarked, marksOf, meetsAt, placedBy}
-use Rattle.multi_cycle_list.proofs.Bytes.{set-keeps}
 use Rattle.multi_cycle_list.proofs.Lists.{In, Below, pigeon, in-or-not, in-snoc-old, in-snoc-new, below-snoc}
 use Rattle.multi_cycle_list.proofs.Chain.{Link, Chain, chain-nodup}
 use Rattle.multi_cycle_list.proofs.Trace.{chain-trace, map-back}
@@ -193,7 +192,11 @@ module _ (C E : ℕ) (nx pv : ℕ → ℕ) (f b v x : ℕ) (l : List ℕ) (fit :
   closed-more y m hy lb r =
       let la = set l (C + x) v in
       let at-y : getD (set la (C + y) v) (C + y) 0 ≡ v = getD-set-same la (C + y) v 0 (omega (arith, length-set l (C + x) v)) in
-      let at-x : getD (set la (C + y) v) (C + x) 0 ≡ v = set-keeps (λ u. u ≡ v) la (C + y) v (C + x) refl (getD-set-same l (C + x) v 0 (omega arith)) in
+      let at-x : getD (set la (C + y) v) (C + x) 0 ≡ v =
+      elim (ℕ-discrete x y) [
+        | yes q ↦ ap (λ (j : ℕ). getD (set la (C + y) v) (C + j) 0) q ∙ at-y
+        | no q ↦ getD-set-other la (C + y) (C + x) v 0 (omega arith) ∙ getD-set-same l (C + x) v 0 (omega arith)
+      ] in
       record {
         zs = x ∷ (r .zs ++ (y ∷ []));
         chain = (lf, chain-snoc C nx pv (r .zs) (C + x) y b (r .chain) lb);

@@ -1,26 +1,23 @@
 -- What the stores do to the lists that the bytes stand for; and the ends of a chain.
 use Prim.Native.Nat.{ℕ, _+_, _-_, _*_, _<_}
 use mathlib.Core.Path.{_≡_, refl, sym, ap, _∙_}
-use mathlib.Core.Logic.{_⊎_, ⊎-elim}
+use mathlib.Core.Logic.{_⊎_, inl, inr, ⊎-elim}
 use mathlib.Core.List.{List, [], _∷_, _++_}
-use mathlib.Core.Bool.{true, cond}
+use mathlib.Core.Bool.{true}
 use native.Mathlib.Omega.{arith}
 use lib.ListN.{getD, set}
-use lib.Dec.{ltb}
 use borrow.Author.Tests.{lt-ltb, le-ltb}
 use Rattle.multi_cycle_list.specs.Nodes.{classes, entries, next, prev, wholeB, listOf, listsOf}
-use Rattle.multi_cycle_list.specs.Inner.{unbindB, bindAfterB, bindBeforeB}
+use Rattle.multi_cycle_list.specs.Inner.{unbindB, bindB, asEntry}
 use Rattle.state.specs.Seq.{each}
 use Rattle.state.proofs.Seq.{each-same, map-each, getD-each, set-each}
 use Rattle.multi_cycle_list.specs.Lists.{without, removed, first, last}
-use Rattle.multi_cycle_list.specs.declared.inner.MaybeEntry.{MaybeEntry}
-use Rattle.multi_cycle_list.specs.declared.inner.MaybeEntry.the-variants.{Some, None}
 use Rattle.multi_cycle_list.proofs.WholeTools.{Sizes, whole-sizes}
 use Rattle.multi_cycle_list.proofs.Lists.{In, of-without}
-use Rattle.multi_cycle_list.proofs.Chain.{Link, Chain}
-use Rattle.multi_cycle_list.proofs.Stores.{unbinds, binds-after, binds-before, Same, unbind-same, after-same, before-same}
+use Rattle.multi_cycle_list.proofs.Chain.{Link, Chain, Binds}
+use Rattle.multi_cycle_list.proofs.Stores.{unbinds, binds, Same, unbind-same, bind-same}
 use Rattle.multi_cycle_list.proofs.Rep.{Rep, upd, upd-same, upd-other, rep-without, rep-front, rep-back, rep-next, rep-prev}
-use Rattle.multi_cycle_list.proofs.Sound.{Stands, linked-in, sound, complete, list-is}
+use Rattle.multi_cycle_list.proofs.Sound.{Stands, linked-in, whole-around, sound, complete, list-is}
 
 -- ---- the bytes t, with the sizes of s, stand for ls
 
@@ -46,19 +43,25 @@ turned-lists s t ls w =
 
 -- ---- the stores
 
+-- the entry's node, and the bytes without it
+abbrev pub nodeOf : List ℕ → ℕ → ℕ
+nodeOf s e = classes s + e
+
+abbrev pub unbound : List ℕ → ℕ → List ℕ
+unbound s e = unbindB s (nodeOf s e)
+
 module _ (s : List ℕ) (e : ℕ) (h : wholeB s ≡ true) (he : e < entries s) where
   pub taken : ℕ → List ℕ
   taken c = without e (listOf s c)
 
-  pub unbound : Turned s (unbindB s (classes s + e)) taken
+  pub unbound-turned : Turned s (unbound s e) taken
   unfolding taken
-  unbound =
-      let z = whole-sizes s h in
-      let l = linked-in s h (classes s + e) (omega arith) in
+  unbound-turned =
+      let l = linked-in s h (nodeOf s e) (omega arith) in
       record {
-        same = unbind-same s (classes s + e);
-        stands = rep-without (classes s) (entries s) (next s) (prev s) (listOf s) (sound s h) (next (unbindB s (classes s + e))) (prev (unbindB s (classes s + e))) e
-            (unbinds s (classes s + entries s) (classes s + e) (z .sized) (omega arith) (l .next-in) (l .prev-in) (l .back) (l .forth));
+        same = unbind-same s (nodeOf s e);
+        stands = rep-without (classes s) (entries s) (next s) (prev s) (listOf s) (sound s h) (next (unbound s e)) (prev (unbound s e)) e
+            (unbinds s (nodeOf s e) (whole-around s h (nodeOf s e) (omega arith)) (l .back) (l .forth));
       }
 
   gone : (c : ℕ) → c < classes s → In e (taken c) → ⊥
@@ -70,38 +73,34 @@ module _ (s : List ℕ) (e : ℕ) (h : wholeB s ≡ true) (he : e < entries s) w
   removed-is = sym (map-each (without e) (classes s) (listOf s))
 
   -- the entry alone
-  lone : Link (next (unbindB s (classes s + e))) (prev (unbindB s (classes s + e))) (classes s + e) (classes s + e)
-  lone =
-      ⊎-elim
-      (λ w. absurd (gone (w .0) (w .1) (w .2)))
-      (λ l. l)
-      (unbound .stands .places e he)
+  lone : Link (next (unbound s e)) (prev (unbound s e)) (nodeOf s e) (nodeOf s e)
+  lone = ⊎-elim (λ w. absurd (gone (w .0) (w .1) (w .2))) (λ l. l) (unbound-turned .stands .places e he)
 
   module _ (c : ℕ) (hc : c < classes s) where
-    pub front-turned : Turned s (bindAfterB (unbindB s (classes s + e)) (classes s + e) c) (upd taken c (e ∷ taken c))
+    -- the entry between a and b, of which one is the class c
+    bound : (a b : ℕ) → a < classes s + entries s → b < classes s + entries s → Link (next (unbound s e)) (prev (unbound s e)) a b → (a ≡ c) ⊎ (b ≡ c)
+        → Binds (next (unbound s e)) (prev (unbound s e)) (next (bindB (unbound s e) (nodeOf s e) a b)) (prev (bindB (unbound s e) (nodeOf s e) a b)) (nodeOf s e) a b
+    bound a b ha hb cut t =
+        let n = unbound-turned .same .len ∙ whole-sizes s h .sized in
+        binds (unbound s e) (nodeOf s e) a b (omega arith) (omega arith) (omega arith) lone cut
+        (λ z. ⊎-elim (λ (y : a ≡ c). omega arith) (λ (y : b ≡ c). omega (arith, sym (cut .0) ∙ ap (next (unbound s e)) z ∙ lone .0)) t)
+
+    pub front-turned : Turned s (bindB (unbound s e) (nodeOf s e) c (next (unbound s e) c)) (upd taken c (e ∷ taken c))
     front-turned =
-        let z = whole-sizes s h in
-        let t = unbindB s (classes s + e) in
-        let u = unbound in
-        let o = rep-next (classes s) (entries s) (next t) (prev t) taken (u .stands) c (omega arith) in
-        let a = after-same t (classes s + e) c in
+        let u = unbound-turned in
+        let o = rep-next (classes s) (entries s) (next (unbound s e)) (prev (unbound s e)) taken (u .stands) c (omega arith) in
         record {
-          same = record { cs = a .cs ∙ u .same .cs; es = a .es ∙ u .same .es; len = a .len ∙ u .same .len };
-          stands = rep-front (classes s) (entries s) (next t) (prev t) taken (u .stands) _ _ e c he hc gone
-              (binds-after t (classes s + entries s) (classes s + e) c (u .same .len ∙ z .sized) (omega arith) (omega arith) (o .0) (lone .0) (lone .1) (omega arith) (o .1));
+          same = bind-same (unbound s e) s _ _ _ (u .same);
+          stands = rep-front (classes s) (entries s) _ _ taken (u .stands) _ _ e c _ _ he hc gone (bound c _ (omega arith) (o .0) (refl, o .1) (inl refl)) refl;
         }
 
-    pub back-turned : Turned s (bindBeforeB (unbindB s (classes s + e)) (classes s + e) c) (upd taken c (taken c ++ (e ∷ [])))
+    pub back-turned : Turned s (bindB (unbound s e) (nodeOf s e) (prev (unbound s e) c) c) (upd taken c (taken c ++ (e ∷ [])))
     back-turned =
-        let z = whole-sizes s h in
-        let t = unbindB s (classes s + e) in
-        let u = unbound in
-        let o = rep-prev (classes s) (entries s) (next t) (prev t) taken (u .stands) c (omega arith) in
-        let a = before-same t (classes s + e) c in
+        let u = unbound-turned in
+        let o = rep-prev (classes s) (entries s) (next (unbound s e)) (prev (unbound s e)) taken (u .stands) c (omega arith) in
         record {
-          same = record { cs = a .cs ∙ u .same .cs; es = a .es ∙ u .same .es; len = a .len ∙ u .same .len };
-          stands = rep-back (classes s) (entries s) (next t) (prev t) taken (u .stands) _ _ e c he hc gone
-              (binds-before t (classes s + entries s) (classes s + e) c (u .same .len ∙ z .sized) (omega arith) (omega arith) (o .0) (lone .0) (lone .1) (omega arith) (o .1));
+          same = bind-same (unbound s e) s _ _ _ (u .same);
+          stands = rep-back (classes s) (entries s) _ _ taken (u .stands) _ _ e c _ _ he hc gone (bound _ c (o .0) (omega arith) (o .1, refl) (inr refl)) refl;
         }
 
     pub pushed-is : (v : List ℕ) → each (classes s) (upd taken c v) ≡ set (removed e (listsOf s)) c v
@@ -112,10 +111,6 @@ module _ (s : List ℕ) (e : ℕ) (h : wholeB s ≡ true) (he : e < entries s) w
     taken-is = sym (ap (λ (l : List (List ℕ)). getD l c []) (sym removed-is) ∙ getD-each (classes s) taken c [] hc)
 
 -- ---- the answers
-
--- the node n as an entry
-abbrev pub asEntry : List ℕ → ℕ → MaybeEntry
-asEntry s n = cond (ltb n (classes s)) None (Some (n - classes s))
 
 pub list-at : (s : List ℕ) (c : ℕ) → c < classes s → getD (listsOf s) c [] ≡ listOf s c
 unfolding listsOf

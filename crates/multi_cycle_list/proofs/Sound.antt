@@ -9,12 +9,12 @@ use lib.ListN.{length, getD}
 use lib.Dec.{eqb, ltb}
 use borrow.Author.Tests.{lt-ltb, ltb-true, eq-eqb, ne-eqb, eqb-true}
 use Rattle.multi_cycle_list.specs.Nodes.{classes, entries, next, prev, sizesB, linkedAt, closes, placed, wholeB, listOf}
-use Rattle.multi_cycle_list.specs.Inner.{marksOf, meetsAt, placedBy, Marked, Whole}
+use Rattle.multi_cycle_list.specs.Inner.{Around, marksOf, meetsAt, placedBy, Marked, Whole}
 use Rattle.multi_cycle_list.specs.Lists.{count}
 use Rattle.state.specs.Seq.{allB, someB}
 use Rattle.state.proofs.Seq.{all-true, all-at, some-true, some-at}
 use Rattle.state.proofs.Tests.{or-split, and-l, and-r, false-of, not-both, same-test}
-use Rattle.multi_cycle_list.proofs.WholeTools.{Sizes, LinkedAt, Parts, parts-of, sizes-of, sizes-last, linked-of}
+use Rattle.multi_cycle_list.proofs.WholeTools.{Sizes, LinkedAt, Parts, parts-of, sizes-of, sizes-last, linked-of, whole-sizes}
 use Rattle.multi_cycle_list.proofs.Lists.{In, count-in, in-count}
 use Rattle.multi_cycle_list.proofs.Chain.{one-class}
 use Rattle.multi_cycle_list.proofs.Trace.{chain-end, chain-trace, trace-chain, trace-inside, map-back}
@@ -27,6 +27,12 @@ Stands s ls = Rep (classes s) (entries s) (next s) (prev s) ls
 
 pub linked-in : (s : List ℕ) → wholeB s ≡ true → (i : ℕ) → i < classes s + entries s → LinkedAt s (classes s + entries s) i
 linked-in s h i hi = linked-of s _ i (all-at _ _ (parts-of s h .links) i hi)
+
+pub whole-around : (s : List ℕ) → wholeB s ≡ true → (i : ℕ) → i < classes s + entries s → Around s i
+whole-around s h i hi =
+    let z = whole-sizes s h in
+    let l = linked-in s h i hi in
+    record { at = (omega arith, omega arith); after = (omega arith, omega arith); before = (omega arith, omega arith) }
 
 pub sound : (s : List ℕ) → wholeB s ≡ true → Stands s (listOf s)
 unfolding listOf

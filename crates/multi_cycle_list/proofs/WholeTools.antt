@@ -3,16 +3,13 @@ use Prim.Native.Nat.{ℕ, _+_, _-_, _*_, _<_, _≤_}
 use mathlib.Core.Path.{_≡_}
 use mathlib.Core.Bool.{true, false, _&&_}
 use mathlib.Core.List.{List}
-use native.Mathlib.Omega.{arith}
 use lib.ListN.{length}
 use lib.Dec.{eqb, ltb, leb}
 use borrow.Author.Tests.{ltb-true, leb-true, le-leb, eqb-true}
 use Rattle.state.specs.Lengths.{listsAllowed, listsLength}
 use Rattle.state.proofs.Tests.{and-l, and-r, and4}
-use Rattle.state.proofs.Seq.{all-at}
 use Rattle.state.specs.Seq.{allB}
 use Rattle.multi_cycle_list.specs.Nodes.{sizesB, linkedAt, classes, entries, next, prev, closes, placed, wholeB}
-use Rattle.multi_cycle_list.specs.Inner.{Within}
 
 pub record Sizes (s : List ℕ) : Type 0 where
   pub some : 1 ≤ classes s
@@ -54,16 +51,6 @@ linked-of s n i h =
     let q = and4 (ltb (next s i) n) (ltb (prev s i) n) (eqb (prev s (next s i)) i) (eqb (next s (prev s i)) i) h in
     record { next-in = ltb-true _ _ (q .0); prev-in = ltb-true _ _ (q .1); back = eqb-true _ _ (q .2); forth = eqb-true _ _ (q .3) }
 
-pub within-of : (s : List ℕ) → sizesB s ≡ true → allB (classes s + entries s) (linkedAt s (classes s + entries s)) ≡ true → Within s (classes s + entries s)
-within-of s h l =
-    let z = sizes-of s h in
-    record {
-      few = omega arith;
-      long = z .sized;
-      next-in = λ i hi. linked-of s _ i (all-at _ _ l i hi) .next-in;
-      prev-in = λ i hi. linked-of s _ i (all-at _ _ l i hi) .prev-in;
-    }
-
 pub whole-no-sizes : (s : List ℕ) → sizesB s ≡ false → wholeB s ≡ false
 unfolding wholeB
 whole-no-sizes s h = rw h
@@ -82,6 +69,3 @@ parts-of s h =
 
 pub whole-sizes : (s : List ℕ) → wholeB s ≡ true → Sizes s
 whole-sizes s h = sizes-of s (parts-of s h .sizes)
-
-pub whole-within : (s : List ℕ) → wholeB s ≡ true → Within s (classes s + entries s)
-whole-within s h = within-of s (parts-of s h .sizes) (parts-of s h .links)

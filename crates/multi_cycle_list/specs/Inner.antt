@@ -1,57 +1,64 @@
 -- What the inner functions store, as the code goes. No contract of a public call cites this.
-use Prim.Native.Nat.{ℕ, zero, suc, _+_, _*_, _<_, _≤_}
+use Prim.Native.Nat.{ℕ, zero, suc, _+_, _-_, _*_, _<_}
 use mathlib.Core.Path.{_≡_}
 use mathlib.Core.List.{List}
 use mathlib.Core.Bool.{Bool, true, false, cond, _&&_, _||_, not}
 use lib.ListN.{length, getD, set, replicate}
 use lib.Dec.{eqb, ltb, leb}
 use Rattle.multi_cycle_list.specs.Lists.{count}
+use Rattle.multi_cycle_list.specs.declared.inner.MaybeEntry.{MaybeEntry}
+use Rattle.multi_cycle_list.specs.declared.inner.MaybeEntry.the-variants.{Some, None}
 use Rattle.multi_cycle_list.specs.Nodes.{classes, entries, next, prev, listOf, wholeB}
 
-abbrev pub setNext : List ℕ → ℕ → ℕ → List ℕ
-setNext s i v = set s (2 + 2 * i) v
+-- a node that the bytes have
+abbrev pub Fits : List ℕ → ℕ → Type 0
+Fits s i = (i < 256) × (3 + 2 * i < length s)
 
-abbrev pub setPrev : List ℕ → ℕ → ℕ → List ℕ
-setPrev s i v = set s (3 + 2 * i) v
+-- and so are those next to it
+pub record Around (s : List ℕ) (i : ℕ) : Type 0 where
+  pub at : Fits s i
+  pub after : Fits s (next s i)
+  pub before : Fits s (prev s i)
 
--- n nodes, whose links stay among them
-pub record Within (s : List ℕ) (n : ℕ) : Type 0 where
-  pub few : n ≤ 256
-  pub long : length s ≡ 2 + 2 * n
-  pub next-in : (i : ℕ) → i < n → next s i < n
-  pub prev-in : (i : ℕ) → i < n → prev s i < n
+-- the node a linked to the node b, both ways
+abbrev pub linkB : List ℕ → ℕ → ℕ → List ℕ
+linkB s a b = set (set s (3 + 2 * b) a) (2 + 2 * a) b
 
-unfoldable pub unbindB : List ℕ → ℕ → List ℕ
-unbindB s i =
-    setNext (setPrev (setNext (setPrev s i i) i i) (next s i) (prev s i)) (prev s i) (next s i)
+abbrev pub unbindB : List ℕ → ℕ → List ℕ
+unbindB s i = linkB (linkB s i i) (prev s i) (next s i)
 
--- the entry i, which stands alone, comes after q
-unfoldable pub bindAfterB : List ℕ → ℕ → ℕ → List ℕ
-bindAfterB s i q = setNext (setPrev (setPrev (setNext s i (next s q)) i q) (next s q) i) q i
-
--- the entry i, which stands alone, comes before q
-unfoldable pub bindBeforeB : List ℕ → ℕ → ℕ → List ℕ
-bindBeforeB s i q = setNext (setPrev (setPrev (setNext s i q) i (prev s q)) q i) (prev s q) i
-
-abbrev pub moveAfterB : List ℕ → ℕ → ℕ → List ℕ
-moveAfterB s i q = bindAfterB (unbindB s i) i q
-
-abbrev pub moveBeforeB : List ℕ → ℕ → ℕ → List ℕ
-moveBeforeB s i q = bindBeforeB (unbindB s i) i q
+-- the node i, which stands alone, between the nodes a and b
+abbrev pub bindB : List ℕ → ℕ → ℕ → ℕ → List ℕ
+bindB s i a b = linkB (linkB s i b) a i
 
 -- the nodes below k alone, the rest as in s
 unfoldable pub aloneTo : List ℕ → ℕ → List ℕ
 aloneTo s zero = s
-aloneTo s (suc k) = setPrev (setNext (aloneTo s k) k k) k k
+aloneTo s (suc k) = linkB (aloneTo s k) k k
+
+-- t is s with the entry e taken out, and i is its node
+pub record Taken (s : List ℕ) (e : ℕ) (t : List ℕ) (i : ℕ) : Type 0 where
+  pub node : i ≡ classes s + e
+  pub is : t ≡ unbindB s (classes s + e)
+  pub fits : Fits t i
+  pub around : (c : ℕ) → c < classes s → Around t c
+
+-- the node n as an entry
+abbrev pub asEntry : List ℕ → ℕ → MaybeEntry
+asEntry s n = cond (ltb n (classes s)) None (Some (n - classes s))
 
 -- ---- the test of wholeness
 
--- the node after i, and before i; n where the link leads out of the n nodes or does not come back
+-- where the link of the node i at out leads; n where it leads out of the n nodes or the link at back there does not come back
+abbrev pub linked : List ℕ → ℕ → ℕ → ℕ → ℕ → ℕ
+linked s n i out back = cond (ltb (getD s (out + 2 * i) 0) n && eqb (getD s (back + 2 * getD s (out + 2 * i) 0) 0) i) (getD s (out + 2 * i) 0) n
+
+-- the node after i, and before i, or n
 abbrev pub ahead : List ℕ → ℕ → ℕ → ℕ
-ahead s n i = cond (ltb (next s i) n && eqb (prev s (next s i)) i) (next s i) n
+ahead s n i = linked s n i 2 3
 
 abbrev pub behind : List ℕ → ℕ → ℕ → ℕ
-behind s n i = cond (ltb (prev s i) n && eqb (next s (prev s i)) i) (prev s i) n
+behind s n i = linked s n i 3 2
 
 -- whether two ends met, and the marks
 pub record Trail : Type 0 where

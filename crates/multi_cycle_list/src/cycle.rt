@@ -1,8 +1,25 @@
-// `MultiCycleList`: taking a node out of its cycle, and putting it in next to another.
+// `MultiCycleList`: linking nodes, taking a node out of its cycle, and putting it in between two others.
 ghost use mathlib.Core.Path.{_≡_};
 ghost use Prim.Native.Nat.{_+_, _*_, _<_, _≤_};
-ghost use lib.ListN.{length};
-ghost use Rattle.multi_cycle_list.specs.Inner.{unbindB, bindAfterB, bindBeforeB, moveAfterB, moveBeforeB, aloneTo, Within};
+ghost use lib.ListN.{length, getD};
+ghost use Rattle.multi_cycle_list.specs.Inner.{linkB, unbindB, bindB, aloneTo, Fits, Around};
+
+// The link of the node `i` at `side`: at 2 to the node after it, at 3 to the one before.
+pub(crate) fn link_at(s: &[u8], i: usize, side: usize) -> usize
+    requires { ⌜ (side ≤ 3) × (3 + 2 * i < length (now s)) ⌝ }
+    ensures { λ r. ⌜ r ≡ getD (now (s .entry)) (side + 2 * i) 0 ⌝ }
+{
+    s[side + 2 * i] as usize
+}
+
+// Links the node `a` to the node `b`, both ways.
+fn link(s: &mut [u8], a: usize, b: usize)
+    requires { ⌜ Fits (now s) a × Fits (now s) b ⌝ }
+    ensures { λ _. ⌜ now (s .exit) ≡ linkB (now (s .entry)) a b ⌝ }
+{
+    s[3 + 2 * b] = a as u8;
+    s[2 + 2 * a] = b as u8;
+}
 
 // Each node alone.
 pub(crate) fn alone(s: &mut [u8], n: usize)
@@ -11,58 +28,26 @@ pub(crate) fn alone(s: &mut [u8], n: usize)
 {
     let mut k = 0;
     while k < n {
-        s[2 + 2 * k] = k as u8;
-        s[3 + 2 * k] = k as u8;
+        link(s, k, k);
         k += 1;
     }
 }
 
-pub(crate) fn unbind(s: &mut [u8], n: usize, i: usize)
-    requires { ⌜ (i < n) × Within (now s) n ⌝ }
+pub(crate) fn unbind(s: &mut [u8], i: usize)
+    requires { ⌜ Around (now s) i ⌝ }
     ensures { λ _. ⌜ now (s .exit) ≡ unbindB (now (s .entry)) i ⌝ }
 {
-    let next = s[2 + 2 * i];
-    let prev = s[3 + 2 * i];
-    s[3 + 2 * i] = i as u8;
-    s[2 + 2 * i] = i as u8;
-    s[3 + 2 * (next as usize)] = prev;
-    s[2 + 2 * (prev as usize)] = next;
+    let next = link_at(s, i, 2);
+    let prev = link_at(s, i, 3);
+    link(s, i, i);
+    link(s, prev, next);
 }
 
-fn bind_after(s: &mut [u8], n: usize, i: usize, q: usize)
-    requires { ⌜ (i < n) × ((q < n) × Within (now s) n) ⌝ }
-    ensures { λ _. ⌜ now (s .exit) ≡ bindAfterB (now (s .entry)) i q ⌝ }
+// The node `i`, which stands alone, between the nodes `a` and `b`.
+pub(crate) fn bind(s: &mut [u8], i: usize, a: usize, b: usize)
+    requires { ⌜ Fits (now s) i × (Fits (now s) a × Fits (now s) b) ⌝ }
+    ensures { λ _. ⌜ now (s .exit) ≡ bindB (now (s .entry)) i a b ⌝ }
 {
-    let next = s[2 + 2 * q];
-    s[2 + 2 * i] = next;
-    s[3 + 2 * i] = q as u8;
-    s[3 + 2 * (next as usize)] = i as u8;
-    s[2 + 2 * q] = i as u8;
-}
-
-fn bind_before(s: &mut [u8], n: usize, i: usize, q: usize)
-    requires { ⌜ (i < n) × ((q < n) × Within (now s) n) ⌝ }
-    ensures { λ _. ⌜ now (s .exit) ≡ bindBeforeB (now (s .entry)) i q ⌝ }
-{
-    let prev = s[3 + 2 * q];
-    s[2 + 2 * i] = q as u8;
-    s[3 + 2 * i] = prev;
-    s[3 + 2 * q] = i as u8;
-    s[2 + 2 * (prev as usize)] = i as u8;
-}
-
-pub(crate) fn move_after(s: &mut [u8], n: usize, i: usize, q: usize)
-    requires { ⌜ (i < n) × ((q < n) × Within (now s) n) ⌝ }
-    ensures { λ _. ⌜ now (s .exit) ≡ moveAfterB (now (s .entry)) i q ⌝ }
-{
-    unbind(s, n, i);
-    bind_after(s, n, i, q);
-}
-
-pub(crate) fn move_before(s: &mut [u8], n: usize, i: usize, q: usize)
-    requires { ⌜ (i < n) × ((q < n) × Within (now s) n) ⌝ }
-    ensures { λ _. ⌜ now (s .exit) ≡ moveBeforeB (now (s .entry)) i q ⌝ }
-{
-    unbind(s, n, i);
-    bind_before(s, n, i, q);
+    link(s, i, b);
+    link(s, a, i);
 }

@@ -1,11 +1,12 @@
 // Whether bytes are a whole list queue.
+use crate::cycle::link_at;
 ghost use mathlib.Core.Path.{_≡_};
 ghost use mathlib.Core.Bool.{true};
 ghost use Prim.Native.Nat.{_+_, _*_, _<_, _≤_};
 ghost use lib.ListN.{length};
 ghost use Rattle.state.specs.Seq.{allB};
 ghost use Rattle.multi_cycle_list.specs.Nodes.{classes, entries, sizesB, wholeB};
-ghost use Rattle.multi_cycle_list.specs.Inner.{ahead, behind, trail, unmarked, marksOf, meetsAt, placedBy, Whole};
+ghost use Rattle.multi_cycle_list.specs.Inner.{linked, ahead, behind, trail, unmarked, marksOf, meetsAt, placedBy, Whole};
 
 fn sizes(s: &[u8]) -> bool
     ensures { λ r. ⌜ r ≡ sizesB (now (s .entry)) ⌝ }
@@ -27,19 +28,27 @@ fn sizes(s: &[u8]) -> bool
     s.len() == 2 + 2 * (c + e)
 }
 
-// The node after `i`; `n` where the link leads out of the `n` nodes or does not come back.
+// Where the link of the node `i` at `out` leads; `n` where it leads out of the `n` nodes or the link at `back` there does not come back.
+fn linked(s: &[u8], n: usize, i: usize, out: usize, back: usize) -> usize
+    requires { ⌜ (i < n) × ((length (now s) ≡ 2 + 2 * n) × ((out ≤ 3) × (back ≤ 3))) ⌝ }
+    ensures { λ r. ⌜ r ≡ linked (now (s .entry)) n i out back ⌝ }
+{
+    let a = link_at(s, i, out);
+    if n <= a {
+        return n;
+    }
+    if link_at(s, a, back) != i {
+        return n;
+    }
+    a
+}
+
+// The node after `i`, or `n`.
 fn ahead(s: &[u8], n: usize, i: usize) -> usize
     requires { ⌜ (i < n) × (length (now s) ≡ 2 + 2 * n) ⌝ }
     ensures { λ r. ⌜ r ≡ ahead (now (s .entry)) n i ⌝ }
 {
-    let a = s[2 + 2 * i] as usize;
-    if n <= a {
-        return n;
-    }
-    if s[3 + 2 * a] as usize != i {
-        return n;
-    }
-    a
+    linked(s, n, i, 2, 3)
 }
 
 // The node before `i`, or `n`.
@@ -47,14 +56,7 @@ fn behind(s: &[u8], n: usize, i: usize) -> usize
     requires { ⌜ (i < n) × (length (now s) ≡ 2 + 2 * n) ⌝ }
     ensures { λ r. ⌜ r ≡ behind (now (s .entry)) n i ⌝ }
 {
-    let a = s[3 + 2 * i] as usize;
-    if n <= a {
-        return n;
-    }
-    if s[2 + 2 * a] as usize != i {
-        return n;
-    }
-    a
+    linked(s, n, i, 3, 2)
 }
 
 // Goes from the class `k` ahead and behind at once, through entries alone, until the two ends meet. Marks the entries' nodes.
@@ -118,10 +120,10 @@ fn is_placed(s: &[u8], seen: &[u8], x: usize) -> bool
     if seen[x] != 0 {
         return true;
     }
-    if s[2 + 2 * x] as usize != x {
+    if link_at(s, x, 2) != x {
         return false;
     }
-    s[3 + 2 * x] as usize == x
+    link_at(s, x, 3) == x
 }
 
 fn all_placed(s: &[u8], seen: &[u8], c: usize, e: usize) -> bool

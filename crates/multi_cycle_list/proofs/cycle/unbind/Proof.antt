@@ -1,110 +1,24 @@
 use borrow.Author.Needs.{needs}
-use native.Mathlib.Omega.{arith}
-use mathlib.Core.Path.{refl}
-use lib.ListN.{length-set}
-use Rattle.multi_cycle_list.specs.Inner.{unbindB, setNext, setPrev}
-use Rattle.multi_cycle_list.specs.Nodes.{next, prev}
 use Rattle.multi_cycle_list.proofs.cycle.unbind.Statement.{statement}
 use Rattle.multi_cycle_list.proofs.cycle.unbind.Tie as tie
 
-mul-next : tie.Need-mul-next
-mul-next c = search needs
+link-at-requires : tie.Need-link-at-requires
+link-at-requires c κs = search needs
 
-add-next : tie.Need-add-next
-add-next c = search needs
+link-at-requires-2 : tie.Need-link-at-requires-2
+link-at-requires-2 c κs = search needs
 
-slice-read-next : tie.Need-slice-read-next
-slice-read-next c = search needs
+link-requires : tie.Need-link-requires
+link-requires c κs = search needs
 
-mul-prev : tie.Need-mul-prev
-mul-prev c = search needs
-
-add-prev : tie.Need-add-prev
-add-prev c = search needs
-
-slice-read-prev : tie.Need-slice-read-prev
-slice-read-prev c = search needs
-
-cast-s : tie.Need-cast-s
-cast-s c = search needs
-
-mul-s : tie.Need-mul-s
-mul-s c = search needs
-
-add-s : tie.Need-add-s
-add-s c = search needs
-
-slice-write-s : tie.Need-slice-write-s
-slice-write-s c = search needs
-
-cast-s-2 : tie.Need-cast-s-2
-cast-s-2 c = search needs
-
-mul-s-2 : tie.Need-mul-s-2
-mul-s-2 c = search needs
-
-add-s-2 : tie.Need-add-s-2
-add-s-2 c = search needs
-
-slice-write-s-2 : tie.Need-slice-write-s-2
-slice-write-s-2 c = simp length-set (omega arith)
-
-cast-s-3 : tie.Need-cast-s-3
-cast-s-3 c = let a = c .before .before in let h = a .pre .1 .next-in (a .args .i) (a .pre .0) in omega arith
-
-mul-s-3 : tie.Need-mul-s-3
-mul-s-3 c = let a = c .before .before in let h = a .pre .1 .next-in (a .args .i) (a .pre .0) in omega arith
-
-add-s-3 : tie.Need-add-s-3
-add-s-3 c = let a = c .before .before in let h = a .pre .1 .next-in (a .args .i) (a .pre .0) in omega arith
-
-slice-write-s-3 : tie.Need-slice-write-s-3
-slice-write-s-3 c = let a = c .before .before in let h = a .pre .1 .next-in (a .args .i) (a .pre .0) in simp length-set (omega arith)
-
-cast-s-4 : tie.Need-cast-s-4
-cast-s-4 c = let a = c .before .before in let h = a .pre .1 .prev-in (a .args .i) (a .pre .0) in omega arith
-
-mul-s-4 : tie.Need-mul-s-4
-mul-s-4 c = let a = c .before .before in let h = a .pre .1 .prev-in (a .args .i) (a .pre .0) in omega arith
-
-add-s-4 : tie.Need-add-s-4
-add-s-4 c = let a = c .before .before in let h = a .pre .1 .prev-in (a .args .i) (a .pre .0) in omega arith
-
-slice-write-s-4 : tie.Need-slice-write-s-4
-slice-write-s-4 c = let a = c .before .before in let h = a .pre .1 .prev-in (a .args .i) (a .pre .0) in simp length-set (omega arith)
+link-requires-2 : tie.Need-link-requires-2
+link-requires-2 c κs = search needs
 
 same-length : tie.Need-same-length
 same-length c = search needs
 
 returns : tie.Need-returns
-unfolding unbindB
-returns c = refl
+returns c = cc (c .before .before .link2 .ensures, c .before .before .before .before .before .before .link .ensures, c .before .before .before .before .before .before .before .before .link-at2 .ensures, c .before .before .before .before .before .before .before .before .before .before .link-at .ensures)
 
 pub unbind-spec : {M : Type 1} → statement M
-unbind-spec =
-    tie.close
-    (tie.spec
-    mul-next
-    add-next
-    slice-read-next
-    mul-prev
-    add-prev
-    slice-read-prev
-    cast-s
-    mul-s
-    add-s
-    slice-write-s
-    cast-s-2
-    mul-s-2
-    add-s-2
-    slice-write-s-2
-    cast-s-3
-    mul-s-3
-    add-s-3
-    slice-write-s-3
-    cast-s-4
-    mul-s-4
-    add-s-4
-    slice-write-s-4
-    same-length
-    returns)
+unbind-spec = tie.close (tie.spec link-at-requires link-at-requires-2 link-requires link-requires-2 same-length returns)

@@ -6,10 +6,11 @@ use mathlib.Core.Bool.{Bool, true, false}
 use mathlib.Core.List.{List, [], _∷_, map}
 use mathlib.Core.Option.{Option, some}
 use lib.ListN.{replicate}
+use Rattle.state.specs.Seq.{toNat}
 use Rattle.state.specs.Lengths.{keysLength, regularLength, loopBackLength, messagesLength, responsesLength}
 use Rattle.entry_tree.specs.Walks.{firstOn}
 use Rattle.regular.specs.Bytes.{read}
-use Rattle.gomxeli.specs.Answers.{packed, flag}
+use Rattle.gomxeli.specs.Answers.{packed}
 use Rattle.gomxeli.specs.Calls.{Call, IqOpen, IqInsert, IqGet, IqRemove, RegOpen, RegRegister, RegUnregister, RegPollPop, RegHubPushStart, RegHubPushNext, LbOpen, LbRegister, LbHubPushStart, LbHubPushNext, TxmOpen, TxmRegister, TxmPick, TxmSettle, TxrOpen, TxrRegister, TxrPick, TxrSettle, run, left}
 
 -- what bytes tell: a regular registry's slot counter; the head of a subject, its first active entry
@@ -56,7 +57,7 @@ refused n = packed n 0 0 0
 
 -- accepted, with a wake flag
 abbrev pub wake : Bool → ℕ
-wake b = packed 0 (flag b) 0 0
+wake b = packed 0 (toNat b) 0 0
 
 -- a poll's updates; it says 'nothing' by `plain`
 abbrev pub adds : ℕ → ℕ
@@ -70,14 +71,14 @@ abbrev pub points : ℕ
 points = packed 0 1 0 0
 
 abbrev pub names : ℕ → Bool → ℕ
-names e more = packed 0 1 e (flag more)
+names e more = packed 0 1 e (toNat more)
 
 -- a pick names an entry and its priority; a settlement the entry, with a wake flag
 abbrev pub picks : ℕ → ℕ → ℕ
 picks e p = packed 0 1 e p
 
 abbrev pub settles : ℕ → Bool → ℕ
-settles e b = packed 0 (flag b) e 0
+settles e b = packed 0 (toNat b) e 0
 
 -- ---- the table
 

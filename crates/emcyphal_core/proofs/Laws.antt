@@ -9,7 +9,7 @@ use lib.Bits.{bitAnd, bitOr, and-shr, or-shr, and-mod, or-mod, and-lt, or-lt}
 use lib.Count.{leadingZeros, trailingZeros, trailing-le}
 use borrow.Author.Tests.{leb-true, le-leb, lt-leb, lt-ltb, ne-eqb}
 use Rattle.emcyphal_core.specs.Priorities.{number, priorityOf, maybePriority, before}
-use Rattle.state.specs.Seq.{allB}
+use Rattle.state.specs.Seq.{allB, toNat}
 use Rattle.emcyphal_core.specs.Sets.{has, bits, setOf, without, isEmpty, firstIn, firstOf, lastOf, nextOf}
 use Rattle.emcyphal_core.specs.declared.Priority.{Priority}
 use Rattle.emcyphal_core.specs.declared.Priority.the-variants.{Exceptional, Immediate, Fast, High, Nominal, Low, Slow, Optional}
@@ -53,18 +53,18 @@ pub seven : (n : ℕ) → n < 8 → ((((((Unit {0} × (n ≡ 0 → ⊥)) × (n �
 seven n l r = le-antisymm (le-of-suc-le-suc l) (past 6 (past 5 (past 4 (past 3 (past 2 (past 1 (past 0 zero-le (r .0 .0 .0 .0 .0 .0 .1)) (r .0 .0 .0 .0 .0 .1)) (r .0 .0 .0 .0 .1)) (r .0 .0 .0 .1)) (r .0 .0 .1)) (r .0 .1)) (r .1))
 
 -- a number's lowest bit, and those above it
-low : (t : Bool) (r : ℕ) → has (cond t 1 0 + 2 * r) 0 ≡ t
+low : (t : Bool) (r : ℕ) → has (toNat t + 2 * r) 0 ≡ t
 low true r = let q : (1 + 2 * r) / 1 % 2 ≡ 1 = omega arith in rw q
 low false r = let q : (0 + 2 * r) / 1 % 2 ≡ 0 = omega arith in rw q
 
-half : (t : Bool) (r : ℕ) → (cond t 1 0 + 2 * r) / 2 ≡ r
+half : (t : Bool) (r : ℕ) → (toNat t + 2 * r) / 2 ≡ r
 half true r = omega arith
 half false r = omega arith
 
-high : (t : Bool) (r k : ℕ) → has (cond t 1 0 + 2 * r) (suc k) ≡ has r k
+high : (t : Bool) (r k : ℕ) → has (toNat t + 2 * r) (suc k) ≡ has r k
 high t r k =
-    let q : (cond t 1 0 + 2 * r) / 2 ^ suc k ≡ r / 2 ^ k =
-    rw (pow-succ' 2 k, ← div-div-eq-div-mul (cond t 1 0 + 2 * r) 2 (2 ^ k), half t r) in
+    let q : (toNat t + 2 * r) / 2 ^ suc k ≡ r / 2 ^ k =
+    rw (pow-succ' 2 k, ← div-div-eq-div-mul (toNat t + 2 * r) 2 (2 ^ k), half t r) in
     rw q
 
 has-bits : (n : ℕ) (f : ℕ → Bool) (p : ℕ) → p < n → has (bits n f) p ≡ f p
@@ -77,7 +77,7 @@ has-bits (suc n) f (suc p) l = high (f 0) (bits n (λ p. f (suc p))) p ∙ has-b
 pub member : (f : ℕ → Bool) (p : ℕ) → p < 8 → has (setOf f) p ≡ f p
 member = has-bits 8
 
-lower : (t : Bool) (r m : ℕ) → r < m → cond t 1 0 + 2 * r < 2 * m
+lower : (t : Bool) (r m : ℕ) → r < m → toNat t + 2 * r < 2 * m
 lower true r m l = omega arith
 lower false r m l = omega arith
 

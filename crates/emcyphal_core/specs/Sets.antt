@@ -3,7 +3,7 @@ use mathlib.Core.List.{List, [], _∷_, reverse}
 use mathlib.Core.Bool.{Bool, not, _&&_, cond}
 use Prim.Native.Nat.{ℕ, zero, suc, _+_, _*_, _/_, _%_, _^_}
 use lib.Dec.{eqb}
-use Rattle.state.specs.Seq.{allB}
+use Rattle.state.specs.Seq.{allB, toNat}
 use Rattle.emcyphal_core.specs.Priorities.{priorities, number}
 use Rattle.emcyphal_core.specs.declared.Priority.{Priority}
 use Rattle.emcyphal_core.specs.declared.MaybePriority.{MaybePriority}
@@ -18,7 +18,7 @@ has b p = eqb (b / 2 ^ p % 2) 1
 -- the number whose bit p is f p for each p below n, and that has no other bit set
 unfoldable pub bits : ℕ → (ℕ → Bool) → ℕ
 bits zero f = 0
-bits (suc n) f = cond (f 0) 1 0 + 2 * bits n (λ p. f (suc p))
+bits (suc n) f = toNat (f 0) + 2 * bits n (λ p. f (suc p))
 
 -- the set of the priorities p with f p
 abbrev pub setOf : (ℕ → Bool) → ℕ

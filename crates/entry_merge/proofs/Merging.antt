@@ -10,7 +10,8 @@ use lib.ListN.{length, getD, set, drop, drop-of-length-le}
 use lib.Seq.{drop-cons, getD-set-same, getD-set-other}
 use lib.Dec.{eqb, ltb}
 use borrow.Author.Tests.{le-leb, lt-leb, lt-ltb, le-ltb}
-use Rattle.entry_tree.specs.Pairs.{Pair, pair, bit, count, isEntry, find, placeOf, without, inserted, inOrder}
+use Rattle.state.specs.Seq.{toNat}
+use Rattle.entry_tree.specs.Pairs.{Pair, pair, count, isEntry, find, placeOf, without, inserted, inOrder}
 use Rattle.entry_tree.specs.Places.{size, pairAt, read}
 use Rattle.entry_merge.specs.Inner.{kept, stays, filled, merged}
 use Rattle.entry_tree.proofs.Lists.{none}
@@ -110,7 +111,7 @@ module _ (test : Pair → Bool) where
   kept-count t [] = omega arith
   kept-count t (p ∷ l) = go (test p) (kept-count t l)
     where
-      go : (b : Bool) → count t (kept test l) ≤ count t l → count t (cond b (p ∷ kept test l) (kept test l)) ≤ bit (t p) + count t l
+      go : (b : Bool) → count t (kept test l) ≤ count t l → count t (cond b (p ∷ kept test l) (kept test l)) ≤ toNat (t p) + count t l
       go true h = omega arith
       go false h = omega arith
 

@@ -9,8 +9,9 @@ use native.Mathlib.Nat.{not-suc-le-zero}
 use lib.ListN.{length, getD}
 use lib.Dec.{leb}
 use borrow.Author.Tests.{le-leb, lt-leb, leb-true, leb-false, eqb-true, ne-eqb}
+use Rattle.state.specs.Seq.{toNat}
 use Rattle.state.proofs.Tests.{and-l, and-r, and-true, by-cond}
-use Rattle.entry_tree.specs.Pairs.{Pair, bit, count, isEntry, without, inserted, inOrder, inRange}
+use Rattle.entry_tree.specs.Pairs.{Pair, count, isEntry, without, inserted, inOrder, inRange}
 use Rattle.entry_tree.specs.Inner.{position, removedAt}
 use Rattle.entry_tree.proofs.Lists.{none}
 
@@ -66,10 +67,10 @@ module _ (p : Pair) where
   inserted-length [] = refl
   inserted-length (q ∷ l) = by-order (λ k. length k ≡ suc (suc (length l))) q l (λ a. ap suc (inserted-length l)) (λ a. refl)
 
-  pub inserted-count : (test : Pair → Bool) (l : List Pair) → count test (inserted p l) ≡ bit (test p) + count test l
+  pub inserted-count : (test : Pair → Bool) (l : List Pair) → count test (inserted p l) ≡ toNat (test p) + count test l
   inserted-count test [] = refl
   inserted-count test (q ∷ l) =
-      by-order (λ k. count test k ≡ bit (test p) + (bit (test q) + count test l)) q l (λ a. omega (arith, inserted-count test l)) (λ a. refl)
+      by-order (λ k. count test k ≡ toNat (test p) + (toNat (test q) + count test l)) q l (λ a. omega (arith, inserted-count test l)) (λ a. refl)
 
   pub inserted-range : (most : ℕ) (l : List Pair) → p .entry ≤ 127 → p .subject ≤ most → inRange most l ≡ true → inRange most (inserted p l) ≡ true
   inserted-range most [] a b h = range-cons most p [] a b refl
@@ -119,25 +120,25 @@ module _ (e : ℕ) where
   pub without-length : (l : List Pair) → length (without e l) + count (isEntry e) l ≡ length l
   without-length [] = refl
   without-length (q ∷ l) =
-      by-entry (λ k. length k + (bit (isEntry e q) + count (isEntry e) l) ≡ suc (length l)) q l
-      (λ t. omega (arith, ap bit t, without-length l))
-      (λ t. omega (arith, ap bit t, without-length l))
+      by-entry (λ k. length k + (toNat (isEntry e q) + count (isEntry e) l) ≡ suc (length l)) q l
+      (λ t. omega (arith, ap toNat t, without-length l))
+      (λ t. omega (arith, ap toNat t, without-length l))
 
   pub without-count : (test : Pair → Bool) (l : List Pair) → count test (without e l) ≤ count test l
   without-count test [] = omega arith
   without-count test (q ∷ l) =
-      by-entry (λ k. count test k ≤ bit (test q) + count test l) q l (λ t. omega (arith, without-count test l)) (λ t. omega (arith, without-count test l))
+      by-entry (λ k. count test k ≤ toNat (test q) + count test l) q l (λ t. omega (arith, without-count test l)) (λ t. omega (arith, without-count test l))
 
   pub without-count-same : (l : List Pair) → count (isEntry e) (without e l) ≡ 0
   without-count-same [] = refl
   without-count-same (q ∷ l) =
-      by-entry (λ k. count (isEntry e) k ≡ 0) q l (λ t. without-count-same l) (λ t. omega (arith, ap bit t, without-count-same l))
+      by-entry (λ k. count (isEntry e) k ≡ 0) q l (λ t. without-count-same l) (λ t. omega (arith, ap toNat t, without-count-same l))
 
   pub without-count-other : (f : ℕ) → f ≢ e → (l : List Pair) → count (isEntry f) (without e l) ≡ count (isEntry f) l
   without-count-other f n [] = refl
   without-count-other f n (q ∷ l) =
-      by-entry (λ k. count (isEntry f) k ≡ bit (isEntry f q) + count (isEntry f) l) q l
-      (λ t. let z = eqb-true e (q .entry) t in let w = ap bit (ne-eqb f (q .entry) (λ y. n (y ∙ sym z))) in omega (arith, w, without-count-other f n l))
+      by-entry (λ k. count (isEntry f) k ≡ toNat (isEntry f q) + count (isEntry f) l) q l
+      (λ t. let z = eqb-true e (q .entry) t in let w = ap toNat (ne-eqb f (q .entry) (λ y. n (y ∙ sym z))) in omega (arith, w, without-count-other f n l))
       (λ t. omega (arith, without-count-other f n l))
 
   pub without-range : (most : ℕ) (l : List Pair) → inRange most l ≡ true → inRange most (without e l) ≡ true
@@ -158,15 +159,15 @@ module _ (e : ℕ) where
   without-none [] h = refl
   without-none (q ∷ l) h =
       by-entry (λ k. k ≡ q ∷ l) q l
-      (λ t. absurd (omega (arith, ap bit t)))
-      (λ t. ap (λ (k : List Pair). q ∷ k) (without-none l (omega (arith, ap bit t))))
+      (λ t. absurd (omega (arith, ap toNat t)))
+      (λ t. ap (λ (k : List Pair). q ∷ k) (without-none l (omega (arith, ap toNat t))))
 
   -- an entry that stands once leaves its place
   pub removed-without : (l : List Pair) → count (isEntry e) l ≤ 1 → position (isEntry e) l < length l → removedAt (position (isEntry e) l) l ≡ without e l
   removed-without [] a b = refl
   removed-without (q ∷ l) a b = cases (isEntry e q) a b (removed-without l) (without-none l)
     where
-      cases : (t : Bool) → bit t + count (isEntry e) l ≤ 1 → cond t 0 (suc (position (isEntry e) l)) < suc (length l)
+      cases : (t : Bool) → toNat t + count (isEntry e) l ≤ 1 → cond t 0 (suc (position (isEntry e) l)) < suc (length l)
           → (count (isEntry e) l ≤ 1 → position (isEntry e) l < length l → removedAt (position (isEntry e) l) l ≡ without e l)
           → (count (isEntry e) l ≡ 0 → without e l ≡ l)
           → removedAt (cond t 0 (suc (position (isEntry e) l))) (q ∷ l) ≡ cond t (without e l) (q ∷ without e l)

@@ -8,7 +8,8 @@ use native.Mathlib.Omega.{arith}
 use lib.Dec.{T, eqb, leb}
 use lib.ListN.{length}
 use borrow.Author.Tests.{leb-true, leb-false, ltb-true, ltb-false, eqb-true, eqb-false, eq-eqb, lt-ltb, le-ltb}
-use Rattle.entry_tree.specs.Pairs.{Pair, bit, count, any, isEntry, onSubject, without}
+use Rattle.state.specs.Seq.{toNat}
+use Rattle.entry_tree.specs.Pairs.{Pair, count, any, isEntry, onSubject, without}
 use Rattle.entry_tree.proofs.Changes.{without-count, without-count-same, without-length}
 
 pub data Same (a b : ℕ) : Type 0 where
@@ -58,7 +59,7 @@ pub both-le : (s t : Pair → Bool) (l : List Pair) → count (λ p. s p && t p)
 both-le s t [] = omega arith
 both-le s t (p ∷ l) = go (s p) (t p) (both-le s t l)
   where
-    go : (a b : Bool) → count (λ p. s p && t p) l ≤ count s l → bit (a && b) + count (λ p. s p && t p) l ≤ bit a + count s l
+    go : (a b : Bool) → count (λ p. s p && t p) l ≤ count s l → toNat (a && b) + count (λ p. s p && t p) l ≤ toNat a + count s l
     go true true h = omega arith
     go true false h = omega arith
     go false b h = omega arith

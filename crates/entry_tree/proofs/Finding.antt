@@ -10,7 +10,8 @@ use lib.Dec.{ltb}
 use lib.ListN.{length, getD, drop, length-append, drop-of-length-le}
 use lib.Seq.{drop-cons}
 use borrow.Author.Tests.{ltb-true, lt-ltb, le-ltb}
-use Rattle.entry_tree.specs.Pairs.{Pair, pair, bit, count, any, isEntry, without, placeOf}
+use Rattle.state.specs.Seq.{toNat}
+use Rattle.entry_tree.specs.Pairs.{Pair, pair, count, any, isEntry, without, placeOf}
 use Rattle.entry_tree.specs.Places as tree
 use Rattle.entry_tree.specs.Places.{size, entryAt, subjectAt, pairAt}
 use Rattle.entry_tree.specs.Walks.{nextOn}
@@ -33,7 +34,7 @@ module _ (test : Pair → Bool) where
   position-once (p ∷ l) zero h q u = ap (λ (b : Bool). cond b 0 (suc (position test l))) q
   position-once (p ∷ l) (suc i) h q u = cases (test p) u (count-at l i (omega arith) q) (position-once l i (omega arith) q)
     where
-      cases : (b : Bool) → bit b + count test l ≤ 1 → 0 < count test l → (count test l ≤ 1 → position test l ≡ i) → cond b 0 (suc (position test l)) ≡ suc i
+      cases : (b : Bool) → toNat b + count test l ≤ 1 → 0 < count test l → (count test l ≤ 1 → position test l ≡ i) → cond b 0 (suc (position test l)) ≡ suc i
       cases true u n r = absurd (omega (arith, u, n))
       cases false u n r = ap suc (r (omega (arith, u)))
 

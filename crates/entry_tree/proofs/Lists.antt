@@ -9,7 +9,8 @@ use lib.ListN.{length, getD, drop, drop-of-length-le}
 use lib.Seq.{drop-cons}
 use lib.Dec.{ltb, leb·suc-suc}
 use borrow.Author.Tests.{lt-ltb}
-use Rattle.entry_tree.specs.Pairs.{Pair, pair, bit, count, any, isEntry, Place, find, placeOf, past}
+use Rattle.state.specs.Seq.{toNat}
+use Rattle.entry_tree.specs.Pairs.{Pair, pair, count, any, isEntry, Place, find, placeOf, past}
 use Rattle.entry_tree.specs.Inner.{position}
 
 -- what stands past the end of a list
@@ -31,7 +32,7 @@ module _ (test : Pair → Bool) where
   any-position [] = refl
   any-position (p ∷ l) = cases (test p) (any-position l)
     where
-      cases : (b : Bool) → any test l ≡ ltb (position test l) (length l) → ltb 0 (bit b + count test l) ≡ ltb (cond b 0 (suc (position test l))) (suc (length l))
+      cases : (b : Bool) → any test l ≡ ltb (position test l) (length l) → ltb 0 (toNat b + count test l) ≡ ltb (cond b 0 (suc (position test l))) (suc (length l))
       cases true h = lt-ltb 0 (1 + count test l) (omega arith) ∙ sym (lt-ltb 0 (suc (length l)) (omega arith))
       cases false h = (let z : 0 + count test l ≡ count test l = omega arith in ap (ltb 0) z) ∙ h ∙ sym (leb·suc-suc (suc (position test l)) (length l))
 

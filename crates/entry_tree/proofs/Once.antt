@@ -9,10 +9,10 @@ use lib.Dec.{leb}
 use lib.ListN.{length}
 use borrow.Author.Tests.{leb-true, le-leb}
 use Rattle.state.specs.Result.{Bytes}
-use Rattle.state.specs.Seq.{allB, each}
+use Rattle.state.specs.Seq.{allB, each, toNat}
 use Rattle.state.proofs.Seq.{all-true, all-at}
 use Rattle.state.proofs.Tests.{and-l, and-r, and-true}
-use Rattle.entry_tree.specs.Pairs.{Pair, pair, bit, count, isEntry, onSubject, hasEntry, inserted, without, inRange, inOrder, rising, onceB}
+use Rattle.entry_tree.specs.Pairs.{Pair, pair, count, isEntry, onSubject, hasEntry, inserted, without, inRange, inOrder, rising, onceB}
 use Rattle.entry_tree.specs.Places.{size, pairAt, read, laid}
 use Rattle.entry_tree.specs.Inner.{treeLength}
 use Rattle.entry_tree.proofs.Changes.{order-cons, order-lower, by-order, inserted-count, by-entry, without-count}
@@ -43,8 +43,8 @@ module _ (most : ℕ) (l : List Pair) (r : inRange most l ≡ true) (o : Once l)
 
 pub inserted-once : (e x : ℕ) (l : List Pair) → hasEntry e l ≡ false → Once l → Once (inserted (pair e x) l)
 inserted-once e x l h o f = elim (compareEq f e) [
-  | same q t ↦ omega (arith, inserted-count (pair e x) (isEntry f) l, ap bit t, any-false (isEntry e) l h, ap (λ (z : ℕ). count (isEntry z) l) q)
-  | diff q t ↦ omega (arith, inserted-count (pair e x) (isEntry f) l, ap bit t, o f)
+  | same q t ↦ omega (arith, inserted-count (pair e x) (isEntry f) l, ap toNat t, any-false (isEntry e) l h, ap (λ (z : ℕ). count (isEntry z) l) q)
+  | diff q t ↦ omega (arith, inserted-count (pair e x) (isEntry f) l, ap toNat t, o f)
 ]
 
 pub without-once : (e : ℕ) (l : List Pair) → Once l → Once (without e l)

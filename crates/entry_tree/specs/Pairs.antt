@@ -3,6 +3,7 @@ use Prim.Native.Nat.{ℕ, suc, _+_}
 use mathlib.Core.List.{List, [], _∷_}
 use mathlib.Core.Bool.{Bool, true, false, cond, _&&_}
 use lib.Dec.{eqb, leb, ltb}
+use Rattle.state.specs.Seq.{toNat}
 
 pub record Pair : Type 0 where
   pub entry : ℕ
@@ -11,14 +12,10 @@ pub record Pair : Type 0 where
 abbrev pub pair : ℕ → ℕ → Pair
 pair e x = record { entry = e; subject = x }
 
-abbrev pub bit : Bool → ℕ
-bit true = 1
-bit false = 0
-
 -- how many pairs of a list pass a test, and whether any does
 abbrev pub count : (Pair → Bool) → List Pair → ℕ
 count t [] = 0
-count t (p ∷ l) = bit (t p) + count t l
+count t (p ∷ l) = toNat (t p) + count t l
 
 abbrev pub any : (Pair → Bool) → List Pair → Bool
 any t l = ltb 0 (count t l)

@@ -7,6 +7,7 @@ use borrow.Author.Tests.{leb-true}
 use lib.Dec.{leb}
 use mir.Syntax.{w16, w32}
 use mir.Val.{Fits, boolByte}
+use Rattle.state.specs.Seq.{toNat}
 use Rattle.emcyphal_core.specs.Priorities.{number, priorityOf, maybePriority}
 use Rattle.emcyphal_core.specs.Sets.{without, firstOf, taken, nextOf}
 use Rattle.emcyphal_core.specs.declared.Priority.{Priority}
@@ -16,7 +17,7 @@ use Rattle.emcyphal_core.specs.declared.NextPriority.{NextPriority}
 use Rattle.emcyphal_core.specs.declared.NextPriority.the-variants.{Some as Item, None as End}
 use Rattle.emcyphal_core.specs.declared.PrioritySetIterator.{PrioritySetIterator}
 use Rattle.emcyphal_core.proofs.Laws.{in-order}
-use Rattle.gomxeli.specs.Answers.{packed, flag, withPriority, nextAnswer}
+use Rattle.gomxeli.specs.Answers.{packed, withPriority, nextAnswer}
 
 -- a byte in a wider field
 pub byte16 : {x : ℕ} → x < 256 → Fits w16 x
@@ -25,7 +26,7 @@ byte16 h = omega arith
 pub byte32 : {x : ℕ} → x < 256 → Fits w32 x
 byte32 h = omega arith
 
-pub as-number : (b : Bool) → boolByte b ≡ flag b
+pub as-number : (b : Bool) → boolByte b ≡ toNat b
 as-number true = refl
 as-number false = refl
 

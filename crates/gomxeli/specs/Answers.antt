@@ -3,6 +3,7 @@
 use Prim.Native.Nat.{ℕ, _+_, _*_, _/_, _%_}
 use mathlib.Core.Bool.{Bool, cond}
 use lib.Dec.{eqb, leb}
+use Rattle.state.specs.Seq.{toNat}
 use Rattle.emcyphal_core.specs.Priorities as priorities
 use Rattle.emcyphal_core.specs.declared.MaybePriority as priority
 use Rattle.emcyphal_core.specs.declared.MaybePriority.the-variants as priority-says
@@ -52,16 +53,13 @@ second a = a / 4294967296
 abbrev pub accepted : ℕ → Bool
 accepted a = eqb (number a) 0
 
-abbrev pub flag : Bool → ℕ
-flag b = cond b 1 0
-
 -- a list queue's answer
 abbrev pub listAnswer : list.Answer → ℕ
 listAnswer (list-says.Refused n) = packed n 0 0 0
 listAnswer list-says.Done = packed 0 0 0 0
 listAnswer (list-says.Is x) = packed 0 1 x 0
 listAnswer list-says.Nothing = packed 0 0 0 0
-listAnswer (list-says.Holds b) = packed 0 (flag b) 0 0
+listAnswer (list-says.Holds b) = packed 0 (toNat b) 0 0
 
 -- a key queue's answer: 14 is an insert that was not taken, with its key and value
 abbrev pub keyAnswer : key.Answer → ℕ
@@ -71,26 +69,26 @@ keyAnswer key-says.Done = packed 0 0 0 0
 keyAnswer key-says.Nothing = packed 0 0 0 0
 keyAnswer (key-says.Key k) = packed 0 1 k 0
 keyAnswer (key-says.Value v) = packed 0 1 0 v
-keyAnswer (key-says.Holds b) = packed 0 (flag b) 0 0
+keyAnswer (key-says.Holds b) = packed 0 (toNat b) 0 0
 
 -- the regular registry's answer: what 1 is a wake, an entry pointed at or named, or an added subject; what 2 is a removed range
 abbrev pub regularAnswer : regular.Answer → ℕ
 regularAnswer (regular-says.Refused n) = packed n 0 0 0
 regularAnswer regular-says.Done = packed 0 0 0 0
-regularAnswer (regular-says.Accepted b) = packed 0 (flag b) 0 0
+regularAnswer (regular-says.Accepted b) = packed 0 (toNat b) 0 0
 regularAnswer (regular-says.AddSubject x) = packed 0 1 x 0
 regularAnswer (regular-says.RemoveSubjectRange a b) = packed 0 2 a b
 regularAnswer regular-says.Nothing = packed 0 0 0 0
-regularAnswer (regular-says.Started b) = packed 0 (flag b) 0 0
-regularAnswer (regular-says.Pushed e more) = packed 0 1 e (flag more)
+regularAnswer (regular-says.Started b) = packed 0 (toNat b) 0 0
+regularAnswer (regular-says.Pushed e more) = packed 0 1 e (toNat more)
 regularAnswer regular-says.NotPushed = packed 0 0 0 0
 
 -- the loop-back registry's answer: what 1 is an entry pointed at or named
 abbrev pub loopBackAnswer : loop-back.Answer → ℕ
 loopBackAnswer (loop-back-says.Refused n) = packed n 0 0 0
 loopBackAnswer loop-back-says.Done = packed 0 0 0 0
-loopBackAnswer (loop-back-says.Started b) = packed 0 (flag b) 0 0
-loopBackAnswer (loop-back-says.Pushed e more) = packed 0 1 e (flag more)
+loopBackAnswer (loop-back-says.Started b) = packed 0 (toNat b) 0 0
+loopBackAnswer (loop-back-says.Pushed e more) = packed 0 1 e (toNat more)
 loopBackAnswer loop-back-says.NotPushed = packed 0 0 0 0
 
 -- the request registry's answer: what 1 is an entry that gets the frame
@@ -104,16 +102,16 @@ requestAnswer request-says.NotPushed = packed 0 0 0 0
 abbrev pub transmitAnswer : transmit.Answer → ℕ
 transmitAnswer (transmit-says.Refused n) = packed n 0 0 0
 transmitAnswer transmit-says.Done = packed 0 0 0 0
-transmitAnswer (transmit-says.Accepted b) = packed 0 (flag b) 0 0
+transmitAnswer (transmit-says.Accepted b) = packed 0 (toNat b) 0 0
 transmitAnswer (transmit-says.Picked e p) = packed 0 1 e p
 transmitAnswer transmit-says.Nothing = packed 0 0 0 0
-transmitAnswer (transmit-says.Settled e b) = packed 0 (flag b) e 0
+transmitAnswer (transmit-says.Settled e b) = packed 0 (toNat b) e 0
 
 -- the filter image's answer
 abbrev pub imageAnswer : image.Answer → ℕ
 imageAnswer (image-says.Refused n) = packed n 0 0 0
 imageAnswer image-says.Done = packed 0 0 0 0
-imageAnswer (image-says.Holds b) = packed 0 (flag b) 0 0
+imageAnswer (image-says.Holds b) = packed 0 (toNat b) 0 0
 
 -- what may be missing: what 1 and the value first, or what 0
 abbrev pub priorityAnswer : priority.MaybePriority → ℕ
@@ -137,7 +135,7 @@ transferAnswer (transfer-says.Some i) = packed 0 1 (i .0) 0
 transferAnswer transfer-says.None = packed 0 0 0 0
 
 abbrev pub eotAnswer : eot.MaybeEot → ℕ
-eotAnswer (eot-says.Some b) = packed 0 1 (flag b) 0
+eotAnswer (eot-says.Some b) = packed 0 1 (toNat b) 0
 eotAnswer eot-says.None = packed 0 0 0 0
 
 -- an iterator's step: the priority first, then the set that is left

@@ -1,6 +1,7 @@
 // Answers as one number each, laid out as specs/Answers.antt has it.
 ghost use mathlib.Core.Path.{_≡_};
-ghost use Rattle.gomxeli.specs.Answers.{packed, flag, listAnswer, keyAnswer, regularAnswer, loopBackAnswer, requestAnswer, transmitAnswer, imageAnswer, priorityAnswer, subjectAnswer, serviceAnswer, nodeAnswer, transferAnswer, eotAnswer};
+ghost use Rattle.state.specs.Seq.{toNat};
+ghost use Rattle.gomxeli.specs.Answers.{packed, listAnswer, keyAnswer, regularAnswer, loopBackAnswer, requestAnswer, transmitAnswer, imageAnswer, priorityAnswer, subjectAnswer, serviceAnswer, nodeAnswer, transferAnswer, eotAnswer};
 use emcyphal_core::MaybeNodeId;
 use emcyphal_core::MaybePriority;
 use emcyphal_core::MaybeServiceId;
@@ -16,7 +17,7 @@ pub fn pack(number: u8, what: u8, first: u16, second: u32) -> u64
 }
 
 pub fn holds(b: bool) -> u64
-    ensures { λ r. ⌜ r ≡ packed 0 (flag b) 0 0 ⌝ }
+    ensures { λ r. ⌜ r ≡ packed 0 (toNat b) 0 0 ⌝ }
 {
     pack(0, b as u8, 0, 0)
 }

@@ -3,11 +3,12 @@ ghost use mathlib.Core.Path.{_≡_};
 ghost use mathlib.Core.Bool.{not, _&&_, _||_};
 ghost use Prim.Native.Nat.{_+_, _%_};
 ghost use lib.Dec.{eqb, leb, ltb};
+ghost use Rattle.state.specs.Seq.{toNat};
 ghost use Rattle.emcyphal_core.specs.Ids.{nodes, subjects, services, transfers, maybeNode, maybeSubject, maybeService, maybeTransfer};
 ghost use Rattle.emcyphal_core.specs.Priorities.{maybePriority, before};
 ghost use Rattle.emcyphal_core.specs.Sets.{has, setOf, without, isEmpty, firstOf, lastOf, nextOf};
 ghost use Rattle.format.specs.Tail.{tailByte, eotFrame};
-ghost use Rattle.gomxeli.specs.Answers.{packed, flag, priorityAnswer, subjectAnswer, serviceAnswer, nodeAnswer, transferAnswer, eotAnswer, nextAnswer, withPriority};
+ghost use Rattle.gomxeli.specs.Answers.{packed, priorityAnswer, subjectAnswer, serviceAnswer, nodeAnswer, transferAnswer, eotAnswer, nextAnswer, withPriority};
 use crate::answer::byte_answer;
 use crate::answer::eot_answer;
 use crate::answer::holds;
@@ -178,7 +179,7 @@ pub extern "C" fn gomxeli_priority_set_new_lt(priority: u8) -> u64
 
 #[no_mangle]
 pub extern "C" fn gomxeli_priority_set_contains(bits: u8, priority: u8) -> u64
-    ensures { λ r. ⌜ r ≡ withPriority priority (packed 0 (flag (has bits priority)) 0 0) ⌝ }
+    ensures { λ r. ⌜ r ≡ withPriority priority (packed 0 (toNat (has bits priority)) 0 0) ⌝ }
 {
     match Priority::try_from_u8(priority) {
         MaybePriority::Some(p) => holds(PrioritySet::from_bits(bits).contains(p)),
@@ -222,7 +223,7 @@ pub extern "C" fn gomxeli_priority_set_last(bits: u8) -> u64
 
 #[no_mangle]
 pub extern "C" fn gomxeli_priority_set_is_empty(bits: u8) -> u64
-    ensures { λ r. ⌜ r ≡ packed 0 (flag (isEmpty bits)) 0 0 ⌝ }
+    ensures { λ r. ⌜ r ≡ packed 0 (toNat (isEmpty bits)) 0 0 ⌝ }
 {
     holds(PrioritySet::from_bits(bits).is_empty())
 }
@@ -287,21 +288,21 @@ pub extern "C" fn gomxeli_tail_byte_new(sot: u8, eot: u8, toggle: u8, transfer_i
 
 #[no_mangle]
 pub extern "C" fn gomxeli_tail_byte_sot(byte: u8) -> u64
-    ensures { λ r. ⌜ r ≡ packed 0 (flag (has byte 7)) 0 0 ⌝ }
+    ensures { λ r. ⌜ r ≡ packed 0 (toNat (has byte 7)) 0 0 ⌝ }
 {
     holds(TailByte::from(byte).sot())
 }
 
 #[no_mangle]
 pub extern "C" fn gomxeli_tail_byte_eot(byte: u8) -> u64
-    ensures { λ r. ⌜ r ≡ packed 0 (flag (has byte 6)) 0 0 ⌝ }
+    ensures { λ r. ⌜ r ≡ packed 0 (toNat (has byte 6)) 0 0 ⌝ }
 {
     holds(TailByte::from(byte).eot())
 }
 
 #[no_mangle]
 pub extern "C" fn gomxeli_tail_byte_toggle(byte: u8) -> u64
-    ensures { λ r. ⌜ r ≡ packed 0 (flag (has byte 5)) 0 0 ⌝ }
+    ensures { λ r. ⌜ r ≡ packed 0 (toNat (has byte 5)) 0 0 ⌝ }
 {
     holds(TailByte::from(byte).toggle())
 }

@@ -3,12 +3,13 @@ use Prim.Native.Nat.{ℕ, _+_, _%_}
 use mathlib.Core.Bool.{not, _&&_, _||_}
 use mathlib.Core.List.{List}
 use lib.Dec.{eqb, leb, ltb}
+use Rattle.state.specs.Seq.{toNat}
 use Rattle.filter_image.specs.Image.{bytes, opening, addSubject, removeSubjectRange, hasSubject}
 use Rattle.emcyphal_core.specs.Ids.{nodes, subjects, services, transfers, maybeNode, maybeSubject, maybeService, maybeTransfer}
 use Rattle.emcyphal_core.specs.Priorities.{maybePriority, before}
 use Rattle.emcyphal_core.specs.Sets.{has, setOf, without, isEmpty, firstOf, lastOf, nextOf}
 use Rattle.format.specs.Tail.{tailByte, eotFrame}
-use Rattle.gomxeli.specs.Answers.{packed, flag, imageAnswer, priorityAnswer, subjectAnswer, serviceAnswer, nodeAnswer, transferAnswer, eotAnswer, nextAnswer, withPriority}
+use Rattle.gomxeli.specs.Answers.{packed, imageAnswer, priorityAnswer, subjectAnswer, serviceAnswer, nodeAnswer, transferAnswer, eotAnswer, nextAnswer, withPriority}
 use Rattle.gomxeli.specs.Calls.{Outcome, asks, changes}
 
 pub data ImageCall : Type 0 where
@@ -52,20 +53,20 @@ leaf (PrioritySetNewGe priority) = withPriority priority (packed 0 0 (setOf (λ 
 leaf (PrioritySetNewLe priority) = withPriority priority (packed 0 0 (setOf (λ p. leb p priority)) 0)
 leaf (PrioritySetNewGt priority) = withPriority priority (packed 0 0 (setOf (λ p. ltb priority p)) 0)
 leaf (PrioritySetNewLt priority) = withPriority priority (packed 0 0 (setOf (λ p. ltb p priority)) 0)
-leaf (PrioritySetContains bits priority) = withPriority priority (packed 0 (flag (has bits priority)) 0 0)
+leaf (PrioritySetContains bits priority) = withPriority priority (packed 0 (toNat (has bits priority)) 0 0)
 leaf (PrioritySetInsert bits priority) = withPriority priority (packed 0 0 (setOf (λ p. has bits p || eqb p priority)) 0)
 leaf (PrioritySetRemove bits priority) = withPriority priority (packed 0 0 (without bits priority) 0)
 leaf (PrioritySetFirst bits) = priorityAnswer (firstOf bits)
 leaf (PrioritySetLast bits) = priorityAnswer (lastOf bits)
-leaf (PrioritySetIsEmpty bits) = packed 0 (flag (isEmpty bits)) 0 0
+leaf (PrioritySetIsEmpty bits) = packed 0 (toNat (isEmpty bits)) 0 0
 leaf (PrioritySetComplement bits) = packed 0 0 (setOf (λ p. not (has bits p))) 0
 leaf (PrioritySetNot bits) = packed 0 0 (setOf (λ p. not (has bits p))) 0
 leaf (PrioritySetBitand a b) = packed 0 0 (setOf (λ p. has a p && has b p)) 0
 leaf (PrioritySetBitor a b) = packed 0 0 (setOf (λ p. has a p || has b p)) 0
 leaf (PrioritySetIterNext bits) = nextAnswer (nextOf bits)
 leaf (TailByteNew sot eot toggle «transfer_id») = packed 0 0 (tailByte (ltb 0 sot) (ltb 0 eot) (ltb 0 toggle) («transfer_id» % transfers)) 0
-leaf (TailByteSot byte) = packed 0 (flag (has byte 7)) 0 0
-leaf (TailByteEot byte) = packed 0 (flag (has byte 6)) 0 0
-leaf (TailByteToggle byte) = packed 0 (flag (has byte 5)) 0 0
+leaf (TailByteSot byte) = packed 0 (toNat (has byte 7)) 0 0
+leaf (TailByteEot byte) = packed 0 (toNat (has byte 6)) 0 0
+leaf (TailByteToggle byte) = packed 0 (toNat (has byte 5)) 0 0
 leaf (TailByteTransferId byte) = packed 0 0 (byte % transfers) 0
 leaf (IsEotFrame frame) = eotAnswer (eotFrame frame)

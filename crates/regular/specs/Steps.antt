@@ -5,9 +5,10 @@ use mathlib.Core.Option.{Option, none, some}
 use mathlib.Core.Bool.{Bool, true, false, cond, not, _&&_, _||_}
 use lib.Dec.{eqb, leb, ltb}
 use lib.ListN.{length}
+use Rattle.state.specs.Seq.{toNat}
 use Rattle.state.specs.Result.{Result, refuse, done}
 use Rattle.multi_cycle_list.specs.Lists as lists
-use Rattle.entry_tree.specs.Pairs.{Pair, pair, Place, bit, hasEntry, hasSubject, without, inserted, placeOf, past}
+use Rattle.entry_tree.specs.Pairs.{Pair, pair, Place, hasEntry, hasSubject, without, inserted, placeOf, past}
 use Rattle.entry_tree.specs.Walks.{isSome, firstOn, nextOn, movedPast}
 use Rattle.regular.specs.Registry.{Registry, queued}
 use Rattle.regular.specs.declared.Answer.{Answer}
@@ -49,7 +50,7 @@ newMark e x q marks = (queued e marks || ltb x (q .subject)) && not (queued (q .
 
 abbrev pub headGaps : ℕ → ℕ → List Pair → List ℕ → Bool → Gaps
 headGaps e x [] marks f = record { cleanUp = lists.without e marks; lastGap = true; more = 1 }
-headGaps e x (q ∷ l) marks f = record { cleanUp = lists.without e marks ++ cond (newMark e x q marks) (q .entry ∷ []) []; lastGap = f; more = bit (newMark e x q marks) }
+headGaps e x (q ∷ l) marks f = record { cleanUp = lists.without e marks ++ cond (newMark e x q marks) (q .entry ∷ []) []; lastGap = f; more = toNat (newMark e x q marks) }
 
 -- a head is the first of its subject
 abbrev pub isHead : Place → Bool

@@ -12,6 +12,7 @@ use lib.ListN.{length, getD, set, drop, replicate, length-replicate, getD-replic
 use lib.Seq.{set-getD, getD-take, getD-drop}
 use borrow.Author.Tests.{not-true, ltb-true, ltb-false, lt-ltb, eq-eqb, ne-eqb}
 use borrow.Rule.Slice.PartMut.{putMid}
+use Rattle.state.specs.Seq.{toNat}
 use Rattle.state.specs.Result.{Bytes}
 use Rattle.state.proofs.Filled.{zero-bytes}
 use Rattle.state.proofs.Tests.{by-cond, and-r}
@@ -23,7 +24,7 @@ use Rattle.multi_cycle_list.specs.Laid as listsLaid
 use Rattle.multi_cycle_list.proofs.Lists.{without-none, in-count, without-same, count-same, count-gone, count-kept}
 use Rattle.multi_cycle_list.proofs.Laid as queues
 use Rattle.multi_cycle_list.proofs.Changes.{remove-valid}
-use Rattle.entry_tree.specs.Pairs.{Pair, pair, bit, count, isEntry, hasEntry, hasSubject, inserted, without, placeOf, Place, past}
+use Rattle.entry_tree.specs.Pairs.{Pair, pair, count, isEntry, hasEntry, hasSubject, inserted, without, placeOf, Place, past}
 use Rattle.entry_tree.specs.Places as tree
 use Rattle.entry_tree.specs.Inner.{position, removedAt, walkAt, withWalkPast}
 use Rattle.entry_tree.proofs.Laid as trees
@@ -114,7 +115,7 @@ module _ (e : ℕ) (marks : List ℕ) (f : Bool) where
   before-gap x [] = refl
   before-gap x (q ∷ l) = go (newMark e x q marks)
     where
-      go : (t : Bool) → (record { cleanUp = lists.without e marks ++ cond t (q .entry ∷ []) []; lastGap = f; more = bit t }) ≡ gapped (cond t (Marked (q .entry)) Withdrawn) e marks f
+      go : (t : Bool) → (record { cleanUp = lists.without e marks ++ cond t (q .entry ∷ []) []; lastGap = f; more = toNat t }) ≡ gapped (cond t (Marked (q .entry)) Withdrawn) e marks f
       go true = refl
       go false = ap (λ (c : List ℕ). withGaps c f 0) (append-nil (lists.without e marks))
 

@@ -5,6 +5,7 @@ use mathlib.Core.Option.{Option, none, some}
 use mathlib.Core.Bool.{Bool, true, false, _||_}
 use native.Mathlib.Omega.{arith}
 use lib.Dec.{eqb, ltb}
+use Rattle.state.specs.Seq.{toNat}
 use Rattle.state.specs.Result.{Result, answer}
 use Rattle.state.proofs.Tests.{by-cond}
 use Rattle.entry_tree.specs.Pairs.{Place, hasEntry, hasSubject, placeOf}
@@ -13,7 +14,7 @@ use Rattle.regular.specs.Steps.{Gaps, gaps, register, unregister, unregisterAct
 use Rattle.regular.specs.declared.Answer.{Answer}
 use Rattle.regular.specs.declared.Answer.the-variants.{Refused, Accepted}
 use Rattle.regular_valid.specs.Inner.{isAccepted, into}
-use Rattle.gomxeli.specs.Answers.{regularAnswer, flag, accepted}
+use Rattle.gomxeli.specs.Answers.{regularAnswer, accepted}
 use Rattle.gomxeli.proofs.Fields.{accepted-of, refused-of}
 
 pub data Reply : Answer → Type 0 where
@@ -47,7 +48,7 @@ unregister-reply e m =
 -- the number tells whether it was accepted
 pub same-accepted : {a : Answer} → Reply a → isAccepted a ≡ accepted (regularAnswer a)
 same-accepted (refused n p h) = rw (refused-of n p h) refl
-same-accepted (taken wake) = rw (accepted-of (flag wake) 0 0) refl
+same-accepted (taken wake) = rw (accepted-of (toNat wake) 0 0) refl
 
 -- and the filter stays
 pub no-update : {a : Answer} → Reply a → (F : ℕ → Bool) (x : ℕ) → into a F x ≡ F x

@@ -5,6 +5,7 @@ use mathlib.Core.Bool.{Bool, true, false, cond, _||_}
 use mathlib.Core.List.{List, [], _∷_}
 use native.Mathlib.Omega.{arith}
 use lib.ListN.{length}
+use Rattle.state.specs.Seq.{toNat}
 use Rattle.state.specs.Result as state
 use Rattle.state.specs.Result.{Result}
 use Rattle.state.proofs.Tests.{by-cond, not-both}
@@ -94,7 +95,7 @@ all-kept (c ∷ cs) w g h =
 
 -- ---- the polls that follow
 
-update-one : (t : Bool) → cond t 1 0 ≤ 1
+update-one : (t : Bool) → toNat t ≤ 1
 update-one true = omega arith
 update-one false = omega arith
 

@@ -5,6 +5,7 @@ use mathlib.Core.Bool.{Bool, false, cond, _||_}
 use mathlib.Core.List.{List, [], _∷_, map}
 use native.Mathlib.Omega.{arith}
 use lib.ListN.{length}
+use Rattle.state.specs.Seq.{toNat}
 use Rattle.state.specs.Result as state
 use Rattle.state.specs.Result.{Result, left}
 use Rattle.multi_cycle_list.specs.Lists as queues
@@ -87,7 +88,7 @@ at-run (k ∷ ks) w p a = at-run ks (after (exported k) w) (plainAfter k p) (at-
 
 abbrev plainUpdates : ℕ → Registry → ℕ
 plainUpdates zero m = 0
-plainUpdates (suc k) m = cond (isNothing (number PollPop m)) 0 (cond (isAdd (number PollPop m) || isRemoval (number PollPop m)) 1 0 + plainUpdates k (left m (pollPop m)))
+plainUpdates (suc k) m = cond (isNothing (number PollPop m)) 0 (toNat (isAdd (number PollPop m) || isRemoval (number PollPop m)) + plainUpdates k (left m (pollPop m)))
 
 abbrev plainNothing : ℕ → Registry → Bool
 plainNothing zero m = false
@@ -97,7 +98,7 @@ same-updates : (k : ℕ) (w : Now) → Good w → updates k w ≡ plainUpdates k
 unfolding updates
 same-updates zero w g = refl
 same-updates (suc k) w g =
-    ap (λ (n : ℕ). cond (isNothing n) 0 (cond (isAdd n || isRemoval n) 1 0 + updates k (after RegPollPop w))) (answer-is PollPop w g)
+    ap (λ (n : ℕ). cond (isNothing n) 0 (toNat (isAdd n || isRemoval n) + updates k (after RegPollPop w))) (answer-is PollPop w g)
     ∙ ap (λ (u : ℕ). cond (isNothing (number PollPop (read (w .state)))) 0 (cond (isAdd (number PollPop (read (w .state))) || isRemoval (number PollPop (read (w .state)))) 1 0 + u))
     (same-updates k (after RegPollPop w) (poll-good w g) ∙ ap (plainUpdates k) (meaning-is PollPop w g))
 

@@ -5,6 +5,7 @@ use mathlib.Core.List.{List, [], _∷_, _++_}
 use mathlib.Core.Bool.{Bool, true, false, cond, _&&_, _||_}
 use lib.Dec.{eqb, leb}
 use lib.ListN.{length}
+use Rattle.state.specs.Seq.{toNat}
 use Rattle.state.specs.Lengths.{regularLength, imageLength}
 use Rattle.entry_tree.specs.Pairs.{pair, hasSubject}
 use Rattle.regular_valid.specs.Moves.{Registered, lists, joined, taken, activated}
@@ -152,7 +153,7 @@ Clear (c ∷ cs) w = ((x : ℕ) → covers (part c) (answer c w) x ≡ true → 
 -- k polls and nothing else: the updates that they hand out before 'nothing', and whether they say it
 unfoldable pub updates : ℕ → Now → ℕ
 updates zero w = 0
-updates (suc k) w = cond (isNothing (answer RegPollPop w)) 0 (cond (isAdd (answer RegPollPop w) || isRemoval (answer RegPollPop w)) 1 0 + updates k (after RegPollPop w))
+updates (suc k) w = cond (isNothing (answer RegPollPop w)) 0 (toNat (isAdd (answer RegPollPop w) || isRemoval (answer RegPollPop w)) + updates k (after RegPollPop w))
 
 unfoldable pub saysNothing : ℕ → Now → Bool
 saysNothing zero w = false

@@ -6,10 +6,11 @@ use mathlib.Core.Bool.{Bool, true, false}
 use mathlib.Core.List.{List, [], _∷_, _++_}
 use native.Mathlib.Omega.{arith}
 use lib.ListN.{length}
+use Rattle.state.specs.Seq.{toNat}
 use Rattle.state.specs.Result.{Result, answer, left}
 use Rattle.state.proofs.Tests.{not-both, same-test}
 use Rattle.multi_cycle_list.specs.Lists as lists
-use Rattle.entry_tree.specs.Pairs.{Pair, bit, count, isEntry, onSubject, hasSubject, without}
+use Rattle.entry_tree.specs.Pairs.{Pair, count, isEntry, onSubject, hasSubject, without}
 use Rattle.entry_tree.proofs.Changes.{without-count, without-count-other, without-length}
 use Rattle.regular.specs.Registry.{Registry, fresh}
 use Rattle.regular.specs.Steps.{Call, PollPop, step, pollPop}
@@ -39,11 +40,11 @@ marks-most (e ∷ q) l h u =
     ]) (λ x. omega (arith, u x, without-count e (isEntry x) l)) in
     omega (arith, without-length e l, h e, count-first e q)
 
-bit-most : (b : Bool) → bit b ≤ 1
+bit-most : (b : Bool) → toNat b ≤ 1
 bit-most true = omega arith
 bit-most false = omega arith
 
-bit-none : (b : Bool) → bit b ≡ 0 → b ≡ false
+bit-none : (b : Bool) → toNat b ≡ 0 → b ≡ false
 bit-none true h = absurd (omega (arith, h))
 bit-none false h = refl
 

@@ -7,8 +7,9 @@ use mathlib.Core.List.{List, [], _∷_, _++_}
 use native.Mathlib.Omega.{arith}
 use lib.Dec.{T, leb}
 use borrow.Author.Tests.{le-leb}
+use Rattle.state.specs.Seq.{toNat}
 use Rattle.multi_cycle_list.specs.Lists as lists
-use Rattle.entry_tree.specs.Pairs.{Pair, pair, Place, bit, count, isEntry, onSubject, without, inserted, find, past}
+use Rattle.entry_tree.specs.Pairs.{Pair, pair, Place, count, isEntry, onSubject, without, inserted, find, past}
 use Rattle.entry_tree.proofs.Changes.{without-none}
 use Rattle.entry_tree.proofs.Walking.{find-rest}
 use Rattle.regular.specs.Steps.{newMark, headGaps, isHead, gaps}
@@ -137,11 +138,11 @@ last-good {F = F} b top (gcons {from = from} {p = p} {l = l} h g) =
 -- ---- an active entry is removed
 
 pub record Mark (b : Bool) (oe s t oq : ℕ) : Type 0 where
-  pub by-mark : 0 < oe → 0 < oq + bit b
-  pub by-head : s < t → 0 < oq + bit b
-  pub only : 0 < bit b → oe ≡ 0 → s < t
-  pub once : 0 < oq → bit b ≡ 0
-  pub most : bit b ≤ 1
+  pub by-mark : 0 < oe → 0 < oq + toNat b
+  pub by-head : s < t → 0 < oq + toNat b
+  pub only : 0 < toNat b → oe ≡ 0 → s < t
+  pub once : 0 < oq → toNat b ≡ 0
+  pub most : toNat b ≤ 1
 
 pub mark : (e s : ℕ) (q : Pair) (ms : List ℕ) → Mark (newMark e s q ms) (lists.count e ms) s (q .subject) (lists.count (q .entry) ms)
 mark e s q ms = elim (compareLe 1 (lists.count e ms)) [
@@ -179,7 +180,7 @@ without-at e ms {from = from} {p = p} h (gcons {p = n} {l = r} k g) q z u = elim
       let b = newMark e (p .subject) n ms in
       let mk = mark e (p .subject) n ms in
       let ne : n .entry ≢ e = not-there e (n .entry) (n ∷ r) z (count-self n r) in
-      let at-n : lists.count (n .entry) (lists.without e ms ++ cond b (n .entry ∷ []) []) ≡ lists.count (n .entry) ms + bit b = rw (count-append, count-kept (n .entry) e ms ne, count-maybe) in
+      let at-n : lists.count (n .entry) (lists.without e ms ++ cond b (n .entry ∷ []) []) ≡ lists.count (n .entry) ms + toNat b = rw (count-append, count-kept (n .entry) e ms ne, count-maybe) in
       let others : (x : ℕ) → 0 < count (isEntry x) r → lists.count x (lists.without e ms ++ cond b (n .entry ∷ []) []) ≡ lists.count x ms
       = λ x a. rw (count-append, count-kept x e ms (not-there e x (n ∷ r) z (omega arith)), count-maybe-other x (n .entry) b (not-there (n .entry) x r (first-only n r (u (n .entry))) a)) (omega arith) in
       gcons {from = from} {p = n}

@@ -6,9 +6,10 @@ use mathlib.Core.Bool.{Bool, false}
 use mathlib.Core.List.{List, [], _∷_, _++_, map}
 use native.Mathlib.Omega.{arith}
 use lib.ListN.{length}
+use Rattle.state.specs.Seq.{toNat}
 use Rattle.multi_cycle_list.specs.Lists as lists
 use Rattle.multi_cycle_list.proofs.Lists.{without-same, without-other as kept-other, count-other}
-use Rattle.entry_tree.specs.Pairs.{Pair, pair, bit, count, isEntry, without, find, placeOf}
+use Rattle.entry_tree.specs.Pairs.{Pair, pair, count, isEntry, without, find, placeOf}
 use Rattle.entry_tree.proofs.Changes.{without-count, without-count-other, without-count-same, without-none}
 use Rattle.regular.specs.Registry.{Registry, fresh}
 use Rattle.regular_valid.specs.Moves as moves
@@ -70,7 +71,7 @@ find-same x e n a b (p ∷ l) i =
     ]
 
 -- the count of a list is that of one of its pairs and of the others
-count-taken : (t : Pair → Bool) (e from : ℕ) (l : List Pair) → count (isEntry e) l ≡ 1 → count t l ≡ bit (t (pair e (find e from l .subject))) + count t (without e l)
+count-taken : (t : Pair → Bool) (e from : ℕ) (l : List Pair) → count (isEntry e) l ≡ 1 → count t l ≡ toNat (t (pair e (find e from l .subject))) + count t (without e l)
 count-taken t e from [] u = absurd (omega (arith, u))
 count-taken t e from (p ∷ l) u =
     elim (compareEq e (p .entry)) [

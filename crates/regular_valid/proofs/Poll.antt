@@ -7,9 +7,10 @@ use native.Mathlib.Omega.{arith}
 use lib.Dec.{leb}
 use lib.ListN.{length}
 use borrow.Author.Tests.{leb-true}
+use Rattle.state.specs.Seq.{toNat}
 use Rattle.state.specs.Result.{Result, done}
 use Rattle.state.proofs.Tests.{not-both, and-l, and-r}
-use Rattle.entry_tree.specs.Pairs.{Pair, bit, count, isEntry, onSubject, without, placeOf, past}
+use Rattle.entry_tree.specs.Pairs.{Pair, count, isEntry, onSubject, without, placeOf, past}
 use Rattle.entry_tree.proofs.Changes.{inserted-count, without-none}
 use Rattle.regular.specs.Registry.{Registry}
 use Rattle.regular.specs.Steps.{PollPop, Step, withCleanUp, becomesActive, activates, stepBy, innerStep, onStep, steps, pollPop}
@@ -109,7 +110,7 @@ steps-fuel (suc n) (suc k) m h j =
 -- ---- what is left to hand out
 
 abbrev pub due : Registry → ℕ
-due m = length (m .cleanUp) + bit (m .lastGap) + length (m .activation)
+due m = length (m .cleanUp) + toNat (m .lastGap) + length (m .activation)
 
 -- what a poll with nothing to clean up comes to, where h are the two lists after it
 data Quiet (d : ℕ) (F : ℕ → Bool) (h : Registered) : Result Answer Registry → Type 0 where

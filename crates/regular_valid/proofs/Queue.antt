@@ -6,9 +6,9 @@ use mathlib.Core.List.{List, [], _∷_, _++_}
 use mathlib.Core.Bool.{Bool, true, false, cond}
 use native.Mathlib.Omega.{arith}
 use native.Mathlib.Decide.{ℕ-discrete}
+use Rattle.state.specs.Seq.{toNat}
 use Rattle.multi_cycle_list.specs.Lists.{count}
 use Rattle.multi_cycle_list.proofs.Lists.{count-same, count-other, count-append}
-use Rattle.entry_tree.specs.Pairs.{bit}
 
 pub count-first : (e : ℕ) (l : List ℕ) → count e (e ∷ l) ≡ suc (count e l)
 count-first e l = count-same e e l refl
@@ -32,6 +32,6 @@ pub count-maybe-other : (x y : ℕ) (b : Bool) → x ≢ y → count x (cond b (
 count-maybe-other x y true n = count-other x y [] (λ q. n (sym q)) ∙ count-nil x
 count-maybe-other x y false n = count-nil x
 
-pub count-maybe : (y : ℕ) (b : Bool) → count y (cond b (y ∷ []) []) ≡ bit b
+pub count-maybe : (y : ℕ) (b : Bool) → count y (cond b (y ∷ []) []) ≡ toNat b
 count-maybe y true = omega (arith, count-first y [], count-nil y)
 count-maybe y false = count-nil y

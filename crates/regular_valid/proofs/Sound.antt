@@ -7,10 +7,11 @@ use mathlib.Core.Option.{Option, some}
 use mathlib.Core.List.{List, [], _∷_}
 use native.Mathlib.Omega.{arith}
 use lib.Dec.{T}
+use Rattle.state.specs.Seq.{toNat}
 use Rattle.state.proofs.Tests.{not-both}
 use Rattle.multi_cycle_list.specs.Lists as lists
 use Rattle.multi_cycle_list.proofs.Lists.{count-other, count-append, count-gone, count-kept}
-use Rattle.entry_tree.specs.Pairs.{Pair, pair, Place, bit, count, any, isEntry, onSubject, without, inserted, placeOf, past}
+use Rattle.entry_tree.specs.Pairs.{Pair, pair, Place, count, any, isEntry, onSubject, without, inserted, placeOf, past}
 use Rattle.entry_tree.proofs.Changes.{inserted-count, without-count, without-count-other, without-count-same}
 use Rattle.entry_tree.specs.Walks.{movedPast}
 use Rattle.entry_tree.proofs.Walking.{find-after, find-rest, next-in, none-some, past-in}
@@ -114,7 +115,7 @@ gaps-most x e d ms f c n h k = go (isHead d) (d .rest) k
     go true (q ∷ l) k = rw (count-append, count-kept x e ms n) (elim (compareEq x (q .entry)) [
       | same r t ↦
           let mk = mark e (d .subject) q ms in
-          let own : lists.count x (cond (newMark e (d .subject) q ms) (q .entry ∷ []) []) ≡ bit (newMark e (d .subject) q ms) = rw r (count-maybe (q .entry) (newMark e (d .subject) q ms)) in
+          let own : lists.count x (cond (newMark e (d .subject) q ms) (q .entry ∷ []) []) ≡ toNat (newMark e (d .subject) q ms) = rw r (count-maybe (q .entry) (newMark e (d .subject) q ms)) in
           elim (compareLe 1 (lists.count x ms)) [
             | below j v ↦ omega (arith, own, mk .once (rw r at j))
             | above j v ↦ omega (arith, own, mk .most, rw t at k)

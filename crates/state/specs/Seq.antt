@@ -1,7 +1,10 @@
--- Tests and lists over the numbers below n.
+-- A test as a number; tests and lists over the numbers below n.
 use Prim.Native.Nat.{ℕ, zero, suc}
 use mathlib.Core.List.{List, [], _∷_}
-use mathlib.Core.Bool.{Bool, true, false, _&&_, _||_}
+use mathlib.Core.Bool.{Bool, true, false, cond, _&&_, _||_}
+
+abbrev pub toNat : Bool → ℕ
+toNat b = cond b 1 0
 
 -- f holds at each number below n
 unfoldable pub allB : ℕ → (ℕ → Bool) → Bool

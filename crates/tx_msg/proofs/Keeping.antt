@@ -10,9 +10,10 @@ use native.Mathlib.Decide.{ℕ-discrete}
 use lib.Dec.{ltb}
 use lib.Seq.{getD-set-same, getD-set-other}
 use borrow.Author.Tests.{ltb-true, ltb-false}
+use Rattle.state.specs.Seq.{toNat}
 use Rattle.state.specs.Result.{Result, refuse, done, left}
 use Rattle.state.proofs.Tests.{and-r, by-cond}
-use Rattle.entry_tree.specs.Pairs.{Pair, pair, bit, count, isEntry, onSubject, hasEntry, hasSubject, inserted, without}
+use Rattle.entry_tree.specs.Pairs.{Pair, pair, count, isEntry, onSubject, hasEntry, hasSubject, inserted, without}
 use Rattle.entry_tree.proofs.Count.{same, diff, compareEq, any-false, true-any, false-any}
 use Rattle.entry_tree.proofs.Changes.{inserted-count, inserted-range, without-range, without-count-same, without-count-other}
 use Rattle.entry_tree.proofs.Once.{inserted-once, inserted-rising, without-once, without-rising}
@@ -104,9 +105,9 @@ module _ (q : TxQueue) (f : valid.Valid q) where
   joins-named l n e x from s y i =
       let k = inserted-count (pair e x) (isEntry y) l in
       elim (compareEq y e) [
-        | same z t ↦ rw z (ap isRegistered (own e from (some s) (omega arith))) ∙ sym (true-any (isEntry y) (inserted (pair e x) l) (omega (arith, k, ap bit t)))
+        | same z t ↦ rw z (ap isRegistered (own e from (some s) (omega arith))) ∙ sym (true-any (isEntry y) (inserted (pair e x) l) (omega (arith, k, ap toNat t)))
         | diff z t ↦
-            let u : count (isEntry y) l ≡ count (isEntry y) (inserted (pair e x) l) = omega (arith, k, ap bit t) in
+            let u : count (isEntry y) l ≡ count (isEntry y) (inserted (pair e x) l) = omega (arith, k, ap toNat t) in
             ap isRegistered (other e from (some s) y z) ∙ n y i ∙ ap (ltb 0) u
       ]
 

@@ -10,7 +10,7 @@ use lib.Dec.{eqb}
 use lib.ListN.{length, getD}
 use borrow.Author.Tests.{eqb-true, eq-eqb, ne-eqb}
 use Rattle.state.specs.Lengths.{responsesLength}
-use Rattle.state.specs.Seq.{allB}
+use Rattle.state.specs.Seq.{allB, toNat}
 use Rattle.state.proofs.Tests.{and-l, and-r, and4}
 use Rattle.state.proofs.Seq.{all-true, all-at, getD-each, length-each}
 use Rattle.multi_cycle_list.specs.Lists.{count}
@@ -94,7 +94,7 @@ whole-of s l z q = rw (eq-eqb (length s) 677 l, z, q)
 
 -- how often an entry that belongs in the queue p stands in the queue k
 abbrev pub times : ℕ → ℕ → ℕ
-times p k = cond (eqb p k) 1 0
+times p k = toNat (eqb p k)
 
 pub times-own : (p k : ℕ) → p ≡ k → times p k ≡ 1
 times-own p k q = rw (eq-eqb p k q)

@@ -5,7 +5,7 @@ use mathlib.Core.Option.{Option, none, some}
 use mathlib.Core.Bool.{Bool, true, false, cond, _&&_, _||_}
 use lib.Dec.{eqb, ltb}
 use lib.ListN.{length, getD, replicate}
-use Rattle.state.specs.Seq.{allB}
+use Rattle.state.specs.Seq.{allB, toNat}
 use Rattle.multi_cycle_list.specs.Lists.{count}
 use Rattle.emcyphal_core.specs.Priorities.{number}
 use Rattle.emcyphal_core.specs.Sets.{has, firstOf}
@@ -67,7 +67,7 @@ firstQueue mask m = firstFrom mask 0 (m .queues)
 
 -- the entry e stands once in the queue that its sets give, and in no other
 abbrev pub placedB : TxQueue → ℕ → Bool
-placedB m e = allB 16 (λ k. eqb (count e (getD (m .queues) k [])) (cond (eqb (place (setsOf m e)) k) 1 0))
+placedB m e = allB 16 (λ k. eqb (count e (getD (m .queues) k [])) (toNat (eqb (place (setsOf m e)) k)))
 
 abbrev pub mtuB : ℕ → Bool
 mtuB mtu = eqb mtu 8 || eqb mtu 64

@@ -11,6 +11,7 @@ use lib.Dec.{eqb, ltb}
 use lib.ListN.{length, getD, length-set}
 use lib.Seq.{getD-set-same, getD-set-other}
 use borrow.Author.Tests.{ltb-true, ltb-false, lt-ltb, ne-eqb}
+use Rattle.state.specs.Seq.{toNat}
 use Rattle.state.specs.Result.{Result, refuse, done, left}
 use Rattle.state.proofs.Tests.{and-r, not-both, by-cond}
 use Rattle.multi_cycle_list.specs.Lists as lists
@@ -124,7 +125,7 @@ module _ (m : TxQueue) (f : Valid m) where
         elim (ℕ-discrete x e) [
           | yes q ↦
               rw (q, sets-same)
-              (requeued-same e from (place o) (m .queues) (c .queues) k i (place-most o) (λ t w. c .placed e k l i ∙ ap (λ (n : ℕ). cond (eqb n k) 1 0) (s (omega arith) ∙ t)))
+              (requeued-same e from (place o) (m .queues) (c .queues) k i (place-most o) (λ t w. c .placed e k l i ∙ ap (λ (n : ℕ). toNat (eqb n k)) (s (omega arith) ∙ t)))
           | no q ↦ rw (sets-other x q) (requeued-other e from (place o) (m .queues) (c .queues) x k q ∙ c .placed x k h i)
         ]
 
@@ -174,7 +175,7 @@ module _ (m : TxQueue) (f : Valid m) where
       let e = picked k m in
       elim (ℕ-discrete (place (setsOf m e)) k) [
         | yes q ↦ q
-        | no q ↦ absurd (omega (arith, front-counted (getD (m .queues) k []) h, c .placed e k (picked-inside k l) l ∙ ap (λ (b : Bool). cond b 1 0) (ne-eqb (place (setsOf m e)) k q)))
+        | no q ↦ absurd (omega (arith, front-counted (getD (m .queues) k []) h, c .placed e k (picked-inside k l) l ∙ ap (λ (b : Bool). toNat b) (ne-eqb (place (setsOf m e)) k q)))
       ]
 
   -- ---- the calls

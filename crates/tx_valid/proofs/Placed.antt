@@ -10,6 +10,7 @@ use lib.Dec.{eqb, ltb}
 use lib.ListN.{length, getD, length-set, length-map, List·getD-map}
 use lib.Seq.{getD-set-same, getD-set-other}
 use borrow.Author.Tests.{lt-ltb, le-ltb, eq-eqb, ne-eqb}
+use Rattle.state.specs.Seq.{toNat}
 use Rattle.state.proofs.Tests.{by-cond}
 use Rattle.multi_cycle_list.specs.Lists.{count, counts, without, removed, pushedBack}
 use Rattle.multi_cycle_list.proofs.Lists.{count-same, count-other, count-gone, count-kept, count-append, in-count}
@@ -58,7 +59,7 @@ module _ (e from to : ℕ) (qs : List (List ℕ)) (n : length qs ≡ 16) where
       (λ _. r)
 
   -- it then stands once, in its queue
-  pub requeued-same : (k : ℕ) → k < 16 → to ≤ 16 → (from ≡ to → to < 16 → count e (getD qs k []) ≡ cond (eqb to k) 1 0) → count e (getD (requeued from to e qs) k []) ≡ cond (eqb to k) 1 0
+  pub requeued-same : (k : ℕ) → k < 16 → to ≤ 16 → (from ≡ to → to < 16 → count e (getD qs k []) ≡ toNat (eqb to k)) → count e (getD (requeued from to e qs) k []) ≡ toNat (eqb to k)
   requeued-same k hk h s =
       elim (decLt to 16) [
         | yes l ↦
@@ -92,19 +93,19 @@ module _ (e from to : ℕ) (qs : List (List ℕ)) (n : length qs ≡ 16) where
 -- ---- queues in which each entry has at most one place
 
 -- e stands in no list but that of the number p; the first has the number j
-counts-placed : (e p j : ℕ) (rs : List (List ℕ)) → ((k : ℕ) → k < length rs → count e (getD rs k []) ≡ cond (eqb p (j + k)) 1 0) → (counts e rs ≤ 1) × (p < j → counts e rs ≡ 0)
+counts-placed : (e p j : ℕ) (rs : List (List ℕ)) → ((k : ℕ) → k < length rs → count e (getD rs k []) ≡ toNat (eqb p (j + k))) → (counts e rs ≤ 1) × (p < j → counts e rs ≡ 0)
 unfolding counts
 counts-placed e p j [] h = (zero-le, λ l. refl)
 counts-placed e p j (r ∷ rs) h =
-    let i = counts-placed e p (suc j) rs (λ k l. h (suc k) (omega arith) ∙ ap (λ (n : ℕ). cond (eqb p n) 1 0) (omega arith)) in
-    let c : count e r ≡ cond (eqb p j) 1 0 = h 0 (omega arith) ∙ ap (λ (n : ℕ). cond (eqb p n) 1 0) (omega arith) in
+    let i = counts-placed e p (suc j) rs (λ k l. h (suc k) (omega arith) ∙ ap (λ (n : ℕ). toNat (eqb p n)) (omega arith)) in
+    let c : count e r ≡ toNat (eqb p j) = h 0 (omega arith) ∙ ap (λ (n : ℕ). toNat (eqb p n)) (omega arith) in
     elim (ℕ-discrete p j) [
       | yes q ↦ (omega (arith, rw (eq-eqb p j q) at c, i .1 (omega arith)), λ l. absurd (omega arith))
       | no q ↦ (omega (arith, rw (ne-eqb p j q) at c, i .0), λ l. omega (arith, rw (ne-eqb p j q) at c, i .1 (omega arith)))
     ]
 
-pub counts-once : (e p : ℕ) (rs : List (List ℕ)) → ((k : ℕ) → k < length rs → count e (getD rs k []) ≡ cond (eqb p k) 1 0) → counts e rs ≤ 1
-counts-once e p rs h = counts-placed e p 0 rs (λ k l. h k l ∙ ap (λ (n : ℕ). cond (eqb p n) 1 0) (omega arith)) .0
+pub counts-once : (e p : ℕ) (rs : List (List ℕ)) → ((k : ℕ) → k < length rs → count e (getD rs k []) ≡ toNat (eqb p k)) → counts e rs ≤ 1
+counts-once e p rs h = counts-placed e p 0 rs (λ k l. h k l ∙ ap (λ (n : ℕ). toNat (eqb p n)) (omega arith)) .0
 
 pub counts-none : (e : ℕ) (rs : List (List ℕ)) → ((k : ℕ) → k < length rs → count e (getD rs k []) ≡ 0) → counts e rs ≡ 0
 counts-none e rs h =

@@ -229,6 +229,13 @@ pub enum NextPriority {
 }
 
 impl PrioritySetIterator {
+    // The members still to come, as a set.
+    pub fn residual(self) -> PrioritySet
+        ensures { λ r. ⌜ r ≡ self .residual ⌝ }
+    {
+        self.residual
+    }
+
     pub fn next(self) -> NextPriority
         ensures { λ r. ⌜ r ≡ nextOf (self .residual .0) ⌝ }
     {

@@ -9,7 +9,7 @@ use mir.Syntax.{w16, w32}
 use mir.Val.{Fits, boolByte}
 use Rattle.state.specs.Seq.{toNat}
 use Rattle.emcyphal_core.specs.Priorities.{number, priorityOf, maybePriority}
-use Rattle.emcyphal_core.specs.Sets.{without, firstOf, taken, nextOf}
+use Rattle.emcyphal_core.specs.Sets.{nextOf}
 use Rattle.emcyphal_core.specs.declared.Priority.{Priority}
 use Rattle.emcyphal_core.specs.declared.MaybePriority.{MaybePriority}
 use Rattle.emcyphal_core.specs.declared.MaybePriority.the-variants.{Some, None}
@@ -59,18 +59,10 @@ with-priority f n e s h = h ∙ through f n (leb n 7) (leb-true n 7) (sym e ∙ 
 pub above-seven : (n a : ℕ) {m : MaybePriority} {r : ℕ} → m ≡ maybePriority n → m ≡ None → r ≡ packed 3 0 0 0 → r ≡ withPriority n a
 above-seven n a e s h = h ∙ stopped a n (leb n 7) (sym e ∙ s)
 
--- an iterator's step leaves the set without the priority
-rest : (b : ℕ) (m : MaybePriority) {p : Priority} {i : PrioritySetIterator} → taken b m ≡ Item p i → without b (number p) ≡ i .residual .0
-rest b (Some q) {p} {i} e =
-    let s : q ≡ p = cc in
-    let t : (record { residual = record { 0 = without b (number q) } }) ≡ i = cc in
-    ap (λ q. without b (number q)) (sym s) ∙ ap (λ i. i .residual .0) t
-rest b None e = distinct (cc)
-
+-- an iterator's step
 pub stepped : (b : ℕ) {m : NextPriority} {p : Priority} {i : PrioritySetIterator} {r x y : ℕ} → m ≡ nextOf b → m ≡ Item p i → r ≡ packed 0 1 x y
-    → x ≡ number p → y ≡ without b (number p) → r ≡ nextAnswer (nextOf b)
-stepped b {m} {p} {i} {r} {x} {y} e s h u v =
-    h ∙ ap (λ x. packed 0 1 x y) u ∙ ap (packed 0 1 (number p)) (v ∙ rest b (firstOf b) (sym e ∙ s)) ∙ ap nextAnswer (sym s ∙ e)
+    → x ≡ number p → y ≡ i .residual .0 → r ≡ nextAnswer (nextOf b)
+stepped b {p = p} {y = y} e s h u v = h ∙ ap (λ x. packed 0 1 x y) u ∙ ap (packed 0 1 (number p)) v ∙ ap nextAnswer (sym s ∙ e)
 
 pub ended : (b : ℕ) {m : NextPriority} {r : ℕ} → m ≡ nextOf b → m ≡ End → r ≡ packed 0 0 0 0 → r ≡ nextAnswer (nextOf b)
 ended b e s h = h ∙ ap nextAnswer (sym s ∙ e)

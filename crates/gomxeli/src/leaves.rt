@@ -256,18 +256,16 @@ pub extern "C" fn gomxeli_priority_set_bitor(a: u8, b: u8) -> u64
     set_answer(PrioritySet::from_bits(a).bitor(PrioritySet::from_bits(b)))
 }
 
-// What the iterator has left is the set without the priority: its own field is private.
 #[no_mangle]
 pub extern "C" fn gomxeli_priority_set_iter_next(bits: u8) -> u64
     ensures { λ r. ⌜ r ≡ nextAnswer (nextOf bits) ⌝ }
 {
-    let set = PrioritySet::from_bits(bits);
-    match set.into_iter().next() {
-        NextPriority::Some(p, _) => pack(
+    match PrioritySet::from_bits(bits).into_iter().next() {
+        NextPriority::Some(p, rest) => pack(
             0,
             1,
             p.into_u8() as u16,
-            set.remove(p).into_bits() as u32,
+            rest.residual().into_bits() as u32,
         ),
         NextPriority::None => pack(0, 0, 0, 0),
     }

@@ -7,14 +7,8 @@ use Rattle.calls.proofs.ReaderLaws.{printed-room}
 use Rattle.calls.proofs.ended.Statement.{statement}
 use Rattle.calls.proofs.ended.Tie as tie
 
-returns : tie.Need-returns
-returns c = search needs
-
 slice-aggregate-line : tie.Need-slice-aggregate-line
 slice-aggregate-line c = sym (length-take-le (c .before .before .before .before .before .args .n) (c .before .before .before .before .before .args .part .now) (c .before .before .before .before .before .pre))
-
-line-requires : tie.Need-line-requires
-line-requires c κs = search needs
 
 array-share-prefix-out : tie.Need-array-share-prefix-out
 array-share-prefix-out c = printed-room ((does (c .before .before .before .before .before .before .before .before .before .args .s .now) (take (c .before .before .before .before .before .before .before .before .before .args .n) (c .before .before .before .before .before .before .before .before .before .args .part .now))) .text) (replicate 640 0) (c .before .before .line .ensures .0) (c .before .before .line .ensures .1 .1)
@@ -22,24 +16,7 @@ array-share-prefix-out c = printed-room ((does (c .before .before .before .befor
 slice-aggregate-write-all : tie.Need-slice-aggregate-write-all
 slice-aggregate-write-all c = sym (length-take-le (c .before .before .before .line .result) (c .before .before .before .line .last .1 .1 .0) (printed-room ((does (c .before .before .before .before .before .before .before .before .before .before .args .s .now) (take (c .before .before .before .before .before .before .before .before .before .before .args .n) (c .before .before .before .before .before .before .before .before .before .before .args .part .now))) .text) (replicate 640 0) (c .before .before .before .line .ensures .0) (c .before .before .before .line .ensures .1 .1)))
 
-write-all-requires : tie.Need-write-all-requires
-write-all-requires c κs = search needs
-
-same-length : tie.Need-same-length
-same-length c = search needs
-
-returns-2 : tie.Need-returns-2
-returns-2 c = search needs
-
 pub ended-spec : {M : Type 1} → statement M
 ended-spec =
-    tie.close
-    (tie.spec
-    returns
-    slice-aggregate-line
-    line-requires
-    array-share-prefix-out
-    slice-aggregate-write-all
-    write-all-requires
-    same-length
-    returns-2)
+    tie.close (tie.spec (λ c. search needs) slice-aggregate-line (λ c κs. search needs) array-share-prefix-out slice-aggregate-write-all
+    (λ c κs. search needs) (λ c. search needs) (λ c. search needs))

@@ -7,14 +7,8 @@ use Rattle.entry_merge.proofs.Writing.{first-none, first-alone, first-b
 use Rattle.entry_merge.proofs.comes_first.Statement.{statement}
 use Rattle.entry_merge.proofs.comes_first.Tie as tie
 
-len-requires : tie.Need-len-requires
-len-requires c κs = search needs
-
 returns : tie.Need-returns
 returns c = first-none (c .before .before .before .before .args .i) (size (c .before .before .before .before .args .a .now)) (c .before .before .before .before .args .j) (size (c .before .before .before .before .args .b .now)) (subjectAt (c .before .before .before .before .args .a .now) (c .before .before .before .before .args .i)) (subjectAt (c .before .before .before .before .args .b .now) (c .before .before .before .before .args .j)) (omega (arith, c .before .len .ensures .0))
-
-len-requires-2 : tie.Need-len-requires-2
-len-requires-2 c κs = search needs
 
 returns-2 : tie.Need-returns-2
 returns-2 c = first-alone (c .before .before .before .before .before .before .args .i) (size (c .before .before .before .before .before .before .args .a .now)) (c .before .before .before .before .before .before .args .j) (size (c .before .before .before .before .before .before .args .b .now)) (subjectAt (c .before .before .before .before .before .before .args .a .now) (c .before .before .before .before .before .before .args .i)) (subjectAt (c .before .before .before .before .before .before .args .b .now) (c .before .before .before .before .before .before .args .j)) (omega (arith, c .before .before .before .len .ensures .0)) (omega (arith, c .before .len2 .ensures .0))
@@ -30,12 +24,4 @@ returns-3 c = ap (λ k. leb k (c .subject-at2 .result)) (c .before .subject-at .
 
 pub comes-first-spec : {M : Type 1} → statement M
 comes-first-spec =
-    tie.close
-    (tie.spec
-    len-requires
-    returns
-    len-requires-2
-    returns-2
-    subject-at-requires
-    subject-at-requires-2
-    returns-3)
+    tie.close (tie.spec (λ c κs. search needs) returns (λ c κs. search needs) returns-2 subject-at-requires subject-at-requires-2 returns-3)

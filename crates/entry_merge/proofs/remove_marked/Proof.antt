@@ -8,42 +8,6 @@ use Rattle.entry_merge.proofs.Writing.{marked-laid, part-long}
 use Rattle.entry_merge.proofs.remove_marked.Statement.{statement}
 use Rattle.entry_merge.proofs.remove_marked.Tie as tie
 
-len-requires : tie.Need-len-requires
-len-requires c κs = search needs
-
-keep-requires : tie.Need-keep-requires
-keep-requires c κs = search needs
-
-mul-fill : tie.Need-mul-fill
-mul-fill c = search needs
-
-add-fill : tie.Need-add-fill
-add-fill c = search needs
-
-mul-fill-2 : tie.Need-mul-fill-2
-mul-fill-2 c = search needs
-
-add-fill-2 : tie.Need-add-fill-2
-add-fill-2 c = search needs
-
-sub-fill : tie.Need-sub-fill
-sub-fill c = search needs
-
-part-fill-start : tie.Need-part-fill-start
-part-fill-start c = search needs
-
-part-fill-end : tie.Need-part-fill-end
-part-fill-end c = search needs
-
-fill-requires : tie.Need-fill-requires
-fill-requires c κs = search needs
-
-cast-t : tie.Need-cast-t
-cast-t c = search needs
-
-slice-write-t : tie.Need-slice-write-t
-slice-write-t c = search needs
-
 same-length : tie.Need-same-length
 same-length c = simp length-set (same-len-mid (1 + 3 * c .before .before .before .before .before .before .keep .result) (1 + 3 * c .before .before .before .before .before .before .before .before .len .result - (1 + 3 * c .before .before .before .before .before .before .keep .result)) (c .before .before .before .before .before .before .keep .last .0) (c .before .before .fill .last .0) (c .before .before .fill .kept .0) ∙ c .before .before .before .before .before .before .keep .kept .0)
 
@@ -52,19 +16,5 @@ returns c = marked-laid (c .before .before .before .before .before .before .befo
 
 pub remove-marked-spec : {M : Type 1} → statement M
 remove-marked-spec =
-    tie.close
-    (tie.spec
-    len-requires
-    keep-requires
-    mul-fill
-    add-fill
-    mul-fill-2
-    add-fill-2
-    sub-fill
-    part-fill-start
-    part-fill-end
-    fill-requires
-    cast-t
-    slice-write-t
-    same-length
-    returns)
+    tie.close (tie.spec (λ c κs. search needs) (λ c κs. search needs) (λ c. search needs) (λ c. search needs) (λ c. search needs) (λ c. search needs)
+    (λ c. search needs) (λ c. search needs) (λ c. search needs) (λ c κs. search needs) (λ c. search needs) (λ c. search needs) same-length returns)

@@ -5,9 +5,6 @@ use native.Mathlib.Omega.{arith}
 use Rattle.entry_tree.proofs.len.Statement.{statement}
 use Rattle.entry_tree.proofs.len.Tie as tie
 
-shared-slice-read-result : tie.Need-shared-slice-read-result
-shared-slice-read-result c = search needs
-
 cast-result : tie.Need-cast-result
 cast-result c = byte-fits (c .shared-slice-known .given _)
 
@@ -15,4 +12,5 @@ returns : tie.Need-returns
 returns c = (refl, omega (arith, c .shared-slice-known .given 0))
 
 pub len-spec : {M : Type 1} → statement M
-len-spec = tie.close (tie.spec shared-slice-read-result cast-result returns)
+len-spec =
+    tie.close (tie.spec (λ c. search needs) cast-result returns)

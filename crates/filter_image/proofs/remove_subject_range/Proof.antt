@@ -7,32 +7,15 @@ use Rattle.filter_image.proofs.remove_subject_range.Tie as tie
 returns : tie.Need-returns
 returns c = remove-crossed (c .before .before .args .first) (c .before .before .args .last) (c .before .before .args .s .now) (omega arith)
 
-refusal-requires : tie.Need-refusal-requires
-refusal-requires c κs = search needs
-
-same-length : tie.Need-same-length
-same-length c = search needs
-
 returns-2 : tie.Need-returns-2
 returns-2 c = remove-refused (c .before .before .before .before .before .args .first) (c .before .before .before .before .before .args .last) (c .before .before .before .before .before .args .s .now) (omega arith) (c .before .refusal .result) (c .before .refusal .ensures) (omega arith)
 
 clear-requires : tie.Need-clear-requires
 clear-requires c κs = let a = accepted (c .before .before .before .before .before .before .args .last) (c .before .before .before .before .before .before .args .s .now) (c .before .before .refusal .result) (c .before .before .refusal .ensures) (omega arith) in (a .1, (omega arith, omega arith))
 
-same-length-2 : tie.Need-same-length-2
-same-length-2 c = search needs
-
 returns-3 : tie.Need-returns-3
 returns-3 c = remove-done (c .before .before .before .before .before .before .before .before .before .args .first) (c .before .before .before .before .before .before .before .before .before .args .last) (c .before .before .before .before .before .before .before .before .before .args .s .now) (omega arith) (c .before .before .clear .last .0) (c .before .before .before .before .before .refusal .result) (c .before .before .before .before .before .refusal .ensures) (omega arith) (c .before .before .clear .ensures)
 
 pub remove-subject-range-spec : {M : Type 1} → statement M
 remove-subject-range-spec =
-    tie.close
-    (tie.spec
-    returns
-    refusal-requires
-    same-length
-    returns-2
-    clear-requires
-    same-length-2
-    returns-3)
+    tie.close (tie.spec returns (λ c κs. search needs) (λ c. search needs) returns-2 clear-requires (λ c. search needs) returns-3)

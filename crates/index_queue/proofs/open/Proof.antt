@@ -13,49 +13,16 @@ returns c = opens (c .before .before .args .s .now) (c .before .before .args .k-
 returns-2 : tie.Need-returns-2
 returns-2 c = opens (c .before .before .before .args .s .now) (c .before .before .before .args .k-max) (c .before .before .before .args .entries) _ (open-sizes (c .before .before .before .args .s .now) (c .before .before .before .args .k-max) (c .before .before .before .args .entries) (sizes-entries (c .before .before .before .args .k-max) (c .before .before .before .args .entries) (c .if2 .taken)))
 
-mul-if3 : tie.Need-mul-if3
-mul-if3 c = search needs
-
-add-if3 : tie.Need-add-if3
-add-if3 c = search needs
-
-add-if3-2 : tie.Need-add-if3-2
-add-if3-2 c = search needs
-
-mul-if3-2 : tie.Need-mul-if3-2
-mul-if3-2 c = search needs
-
-add-if3-3 : tie.Need-add-if3-3
-add-if3-3 c = search needs
-
 returns-3 : tie.Need-returns-3
 returns-3 c = opens (c .before .before .before .before .args .s .now) (c .before .before .before .before .args .k-max) (c .before .before .before .before .args .entries) _ (open-length (c .before .before .before .before .args .s .now) (c .before .before .before .before .args .k-max) (c .before .before .before .before .args .entries) (allowed-keys (c .before .before .before .before .args .k-max) (c .before .before .before .before .args .entries) (c .before .before .if1 .left) (c .before .if2 .left)) (c .if3 .taken))
 
-cast-open-entries : tie.Need-cast-open-entries
-cast-open-entries c = search needs
-
 open-entries-requires : tie.Need-open-entries-requires
 open-entries-requires c κs = ((allowed-keys (c .before .before .before .before .before .args .k-max) (c .before .before .before .before .before .args .entries) (c .before .before .before .if1 .left) (c .before .before .if2 .left)), c .before .if3 .left)
-
-same-length : tie.Need-same-length
-same-length c = search needs
 
 returns-4 : tie.Need-returns-4
 returns-4 c = let o = opens (c .before .before .before .before .before .before .before .before .args .s .now) (c .before .before .before .before .before .before .before .before .args .k-max) (c .before .before .before .before .before .before .before .before .args .entries) _ (open-done (c .before .before .before .before .before .before .before .before .args .s .now) (c .before .before .before .before .before .before .before .before .args .k-max) (c .before .before .before .before .before .before .before .before .args .entries) (allowed-keys (c .before .before .before .before .before .before .before .before .args .k-max) (c .before .before .before .before .before .before .before .before .args .entries) (c .before .before .before .before .before .before .if1 .left) (c .before .before .before .before .before .if2 .left)) (c .before .before .before .before .if3 .left)) in (o .0, c .before .before .open-entries .ensures ∙ o .1)
 
 pub open-spec : {M : Type 1} → statement M
 open-spec =
-    tie.close
-    (tie.spec
-    returns
-    returns-2
-    mul-if3
-    add-if3
-    add-if3-2
-    mul-if3-2
-    add-if3-3
-    returns-3
-    cast-open-entries
-    open-entries-requires
-    same-length
-    returns-4)
+    tie.close (tie.spec returns returns-2 (λ c. search needs) (λ c. search needs) (λ c. search needs) (λ c. search needs) (λ c. search needs)
+    returns-3 (λ c. search needs) open-entries-requires (λ c. search needs) returns-4)

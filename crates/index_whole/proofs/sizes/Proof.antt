@@ -13,14 +13,8 @@ use Rattle.index_whole.proofs.sizes.Tie as tie
 returns : tie.Need-returns
 returns c = sym (too-short _ (c .if1 .taken))
 
-word-requires : tie.Need-word-requires
-word-requires c κs = search needs
-
 returns-2 : tie.Need-returns-2
 returns-2 c = sym (too-far _ (omega (arith, c .before .word .ensures .0)))
-
-shared-slice-read-n : tie.Need-shared-slice-read-n
-shared-slice-read-n c = search needs
 
 cast-n : tie.Need-cast-n
 cast-n c = byte-fits (c .shared-slice-known2 .given _)
@@ -28,37 +22,10 @@ cast-n c = byte-fits (c .shared-slice-known2 .given _)
 returns-3 : tie.Need-returns-3
 returns-3 c = sym (too-many _ (c .if3 .taken))
 
-mul-result : tie.Need-mul-result
-mul-result c = search needs
-
-add-result : tie.Need-add-result
-add-result c = search needs
-
-add-result-2 : tie.Need-add-result-2
-add-result-2 c = search needs
-
-mul-result-2 : tie.Need-mul-result-2
-mul-result-2 c = search needs
-
-add-result-3 : tie.Need-add-result-3
-add-result-3 c = search needs
-
 returns-4 : tie.Need-returns-4
 returns-4 c = let s = c .before .before .before .before .before .before .args .s .now in ap (λ (k : ℕ). eqb (length s) (11 + 8 * entries s + 4 * ((k + 1) / 4))) (c .before .before .before .word .ensures .0) ∙ sym (sizes-last s (omega (arith, c .before .before .before .word .ensures .0)) (c .if3 .left))
 
 pub sizes-spec : {M : Type 1} → statement M
 sizes-spec =
-    tie.close
-    (tie.spec
-    returns
-    word-requires
-    returns-2
-    shared-slice-read-n
-    cast-n
-    returns-3
-    mul-result
-    add-result
-    add-result-2
-    mul-result-2
-    add-result-3
-    returns-4)
+    tie.close (tie.spec returns (λ c κs. search needs) returns-2 (λ c. search needs) cast-n returns-3 (λ c. search needs) (λ c. search needs)
+    (λ c. search needs) (λ c. search needs) (λ c. search needs) returns-4)

@@ -7,9 +7,6 @@ use Rattle.index_whole.proofs.SizeLaws.{sized, no-sizes, no-lists, no-s
 use Rattle.index_whole.proofs.whole.Statement.{statement}
 use Rattle.index_whole.proofs.whole.Tie as tie
 
-sizes-requires : tie.Need-sizes-requires
-sizes-requires c κs = search needs
-
 returns : tie.Need-returns
 returns c = sym (no-sizes _ (sym (c .before .sizes .ensures) ∙ c .if1 .left))
 
@@ -22,18 +19,12 @@ cast-n c = byte-fits (c .shared-slice-known2 .given _)
 word-requires : tie.Need-word-requires
 word-requires c κs = omega (arith, sized (c .before .before .before .before .args .s .now) _ (sym (c .before .before .sizes .ensures) ∙ c .before .if1 .taken) refl .long)
 
-slice-aggregate-lists : tie.Need-slice-aggregate-lists
-slice-aggregate-lists c = search needs
-
 lists-requires : tie.Need-lists-requires
 unfolding unmarked
 lists-requires c κs = (refl, sized (c .before .before .before .before .before .before .args .s .now) _ (sym (c .before .before .before .before .sizes .ensures) ∙ c .before .before .before .if1 .taken) (c .before .word .ensures .0))
 
 returns-2 : tie.Need-returns-2
 returns-2 c = sym (no-lists _ (sym (c .before .before .lists .ensures .test) ∙ c .if2 .left))
-
-slice-aggregate-slots : tie.Need-slice-aggregate-slots
-slice-aggregate-slots c = search needs
 
 slots-requires : tie.Need-slots-requires
 slots-requires c κs = (c .before .before .before .lists .kept .1 .0, (c .before .before .before .lists .ensures .freed (c .before .if2 .taken), sized (c .before .before .before .before .before .before .before .before .before .before .args .s .now) _ (sym (c .before .before .before .before .before .before .before .before .sizes .ensures) ∙ c .before .before .before .before .before .before .before .if1 .taken) (c .before .before .before .before .before .word .ensures .0)))
@@ -49,18 +40,5 @@ returns-4 c = c .keys .ensures ∙ sym (whole-last (c .before .before .before .b
 
 pub whole-spec : {M : Type 1} → statement M
 whole-spec =
-    tie.close
-    (tie.spec
-    sizes-requires
-    returns
-    shared-slice-read-n
-    cast-n
-    word-requires
-    slice-aggregate-lists
-    lists-requires
-    returns-2
-    slice-aggregate-slots
-    slots-requires
-    returns-3
-    keys-requires
-    returns-4)
+    tie.close (tie.spec (λ c κs. search needs) returns shared-slice-read-n cast-n word-requires (λ c. search needs) lists-requires returns-2
+    (λ c. search needs) slots-requires returns-3 keys-requires returns-4)

@@ -13,12 +13,6 @@ use Rattle.loop_back.proofs.Acts.{long-tree, few-pairs, tree-then, left
 use Rattle.loop_back.proofs.leave.Statement.{statement}
 use Rattle.loop_back.proofs.leave.Tie as tie
 
-sub-next-push : tie.Need-sub-next-push
-sub-next-push c = search needs
-
-part-next-push-start : tie.Need-part-next-push-start
-part-next-push-start c = search needs
-
 part-next-push-end : tie.Need-part-next-push-end
 part-next-push-end c = omega (arith, whole-of _ (c .before .before .pre .0) .long)
 
@@ -27,12 +21,6 @@ next-push-requires c κs = (long-tree _ (c .before .before .before .pre .0), (fe
 
 walk-past-requires : tie.Need-walk-past-requires
 walk-past-requires c κs = omega (arith, whole-of _ (c .before .before .before .before .before .pre .0) .long)
-
-sub-remove : tie.Need-sub-remove
-sub-remove c = search needs
-
-part-remove-start : tie.Need-part-remove-start
-part-remove-start c = search needs
 
 part-remove-end : tie.Need-part-remove-end
 part-remove-end c = omega (arith, whole-of _ (c .before .before .before .before .before .before .before .before .pre .0) .long, c .before .before .walk-past .kept .0)
@@ -48,16 +36,5 @@ returns c = ap (λ (t : List ℕ). putMid 0 385 (c .before .before .before .befo
 
 pub leave-spec : {M : Type 1} → statement M
 leave-spec =
-    tie.close
-    (tie.spec
-    sub-next-push
-    part-next-push-start
-    part-next-push-end
-    next-push-requires
-    walk-past-requires
-    sub-remove
-    part-remove-start
-    part-remove-end
-    remove-requires
-    same-length
-    returns)
+    tie.close (tie.spec (λ c. search needs) (λ c. search needs) part-next-push-end next-push-requires walk-past-requires (λ c. search needs)
+    (λ c. search needs) part-remove-end remove-requires same-length returns)

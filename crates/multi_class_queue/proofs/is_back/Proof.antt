@@ -8,9 +8,6 @@ use Rattle.multi_class_queue.proofs.Calls.{accepted, turned-away, asked
 use Rattle.multi_class_queue.proofs.is_back.Statement.{statement}
 use Rattle.multi_class_queue.proofs.is_back.Tie as tie
 
-refusal-requires : tie.Need-refusal-requires
-refusal-requires c κs = search needs
-
 returns : tie.Need-returns
 returns c = turned-away (c .before .before .before .args .s .now) 1 (c .before .before .before .args .entry) (isBack (c .before .before .before .args .entry)) (is-back-out (c .before .before .before .args .s .now) (c .before .before .before .args .entry)) _ (c .before .refusal .ensures) (c .if1 .taken) .0
 
@@ -40,15 +37,5 @@ returns-3 c = let a = (accepted (c .before .before .before .before .before .befo
 
 pub is-back-spec : {M : Type 1} → statement M
 is-back-spec =
-    tie.close
-    (tie.spec
-    refusal-requires
-    returns
-    shared-slice-read-c
-    cast-next
-    add-next
-    mul-next
-    add-next-2
-    shared-slice-read-next
-    returns-2
+    tie.close (tie.spec (λ c κs. search needs) returns shared-slice-read-c cast-next add-next mul-next add-next-2 shared-slice-read-next returns-2
     returns-3)

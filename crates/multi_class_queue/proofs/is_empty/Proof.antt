@@ -7,17 +7,8 @@ use Rattle.multi_class_queue.proofs.Calls.{accepted, turned-away, asked
 use Rattle.multi_class_queue.proofs.is_empty.Statement.{statement}
 use Rattle.multi_class_queue.proofs.is_empty.Tie as tie
 
-refusal-requires : tie.Need-refusal-requires
-refusal-requires c κs = search needs
-
 returns : tie.Need-returns
 returns c = turned-away (c .before .before .before .args .s .now) 0 (c .before .before .before .args .class) (isEmpty (c .before .before .before .args .class)) (empty-out (c .before .before .before .args .s .now) (c .before .before .before .args .class)) _ (c .before .refusal .ensures) (c .if1 .taken) .0
-
-mul-t6 : tie.Need-mul-t6
-mul-t6 c = search needs
-
-add-t7 : tie.Need-add-t7
-add-t7 c = search needs
 
 shared-slice-read-t9 : tie.Need-shared-slice-read-t9
 shared-slice-read-t9 c = let a = (accepted (c .before .before .before .before .args .s .now) 0 (c .before .before .before .before .args .class) _ (c .before .before .refusal .ensures) (c .before .if1 .left)) in let z = whole-sizes (c .before .before .before .before .args .s .now) (a .0) in omega (arith, a .1)
@@ -30,12 +21,4 @@ returns-2 c = let a = (accepted (c .before .before .before .before .before .args
 
 pub is-empty-spec : {M : Type 1} → statement M
 is-empty-spec =
-    tie.close
-    (tie.spec
-    refusal-requires
-    returns
-    mul-t6
-    add-t7
-    shared-slice-read-t9
-    shared-slice-read-t11
-    returns-2)
+    tie.close (tie.spec (λ c κs. search needs) returns (λ c. search needs) (λ c. search needs) shared-slice-read-t9 shared-slice-read-t11 returns-2)

@@ -8,9 +8,6 @@ use Rattle.multi_class_queue.proofs.Calls.{accepted, turned-away, asked
 use Rattle.multi_class_queue.proofs.is_front.Statement.{statement}
 use Rattle.multi_class_queue.proofs.is_front.Tie as tie
 
-refusal-requires : tie.Need-refusal-requires
-refusal-requires c κs = search needs
-
 returns : tie.Need-returns
 returns c = turned-away (c .before .before .before .args .s .now) 1 (c .before .before .before .args .entry) (isFront (c .before .before .before .args .entry)) (is-front-out (c .before .before .before .args .s .now) (c .before .before .before .args .entry)) _ (c .before .refusal .ensures) (c .if1 .taken) .0
 
@@ -40,15 +37,5 @@ returns-3 c = let a = (accepted (c .before .before .before .before .before .befo
 
 pub is-front-spec : {M : Type 1} → statement M
 is-front-spec =
-    tie.close
-    (tie.spec
-    refusal-requires
-    returns
-    shared-slice-read-c
-    cast-prev
-    add-prev
-    mul-prev
-    add-prev-2
-    shared-slice-read-prev
-    returns-2
+    tie.close (tie.spec (λ c κs. search needs) returns shared-slice-read-c cast-prev add-prev mul-prev add-prev-2 shared-slice-read-prev returns-2
     returns-3)

@@ -16,38 +16,16 @@ returns-2 c = opens (c .before .before .before .args .s .now) (c .before .before
 returns-3 : tie.Need-returns-3
 returns-3 c = opens (c .before .before .before .before .args .s .now) (c .before .before .before .before .args .classes) (c .before .before .before .before .args .entries) _ (open-sizes (c .before .before .before .before .args .s .now) (c .before .before .before .before .args .classes) (c .before .before .before .before .args .entries) (sizes-entries (c .before .before .before .before .args .classes) (c .before .before .before .before .args .entries) (c .if3 .taken)))
 
-add-n : tie.Need-add-n
-add-n c = search needs
-
-mul-if4 : tie.Need-mul-if4
-mul-if4 c = search needs
-
-add-if4 : tie.Need-add-if4
-add-if4 c = search needs
-
 returns-4 : tie.Need-returns-4
 returns-4 c = opens (c .before .before .before .before .before .args .s .now) (c .before .before .before .before .before .args .classes) (c .before .before .before .before .before .args .entries) _ (open-length (c .before .before .before .before .before .args .s .now) (c .before .before .before .before .before .args .classes) (c .before .before .before .before .before .args .entries) (of-allowed (c .before .before .before .before .before .args .classes) (c .before .before .before .before .before .args .entries) (c .before .before .before .if1 .left) (c .before .before .if2 .left) (c .before .if3 .left)) (c .if4 .taken))
 
 inner-open-requires : tie.Need-inner-open-requires
 inner-open-requires c κs = (of-allowed (c .before .before .before .before .before .before .args .classes) (c .before .before .before .before .before .before .args .entries) (c .before .before .before .before .if1 .left) (c .before .before .before .if2 .left) (c .before .before .if3 .left), c .before .if4 .left)
 
-same-length : tie.Need-same-length
-same-length c = search needs
-
 returns-5 : tie.Need-returns-5
 returns-5 c = let o = opens (c .before .before .before .before .before .before .before .before .before .args .s .now) (c .before .before .before .before .before .before .before .before .before .args .classes) (c .before .before .before .before .before .before .before .before .before .args .entries) _ (open-done (c .before .before .before .before .before .before .before .before .before .args .s .now) (c .before .before .before .before .before .before .before .before .before .args .classes) (c .before .before .before .before .before .before .before .before .before .args .entries) (of-allowed (c .before .before .before .before .before .before .before .before .before .args .classes) (c .before .before .before .before .before .before .before .before .before .args .entries) (c .before .before .before .before .before .before .before .if1 .left) (c .before .before .before .before .before .before .if2 .left) (c .before .before .before .before .before .if3 .left)) (c .before .before .before .before .if4 .left)) in (o .0, c .before .before .inner-open .ensures ∙ o .1)
 
 pub open-spec : {M : Type 1} → statement M
 open-spec =
-    tie.close
-    (tie.spec
-    returns
-    returns-2
-    returns-3
-    add-n
-    mul-if4
-    add-if4
-    returns-4
-    inner-open-requires
-    same-length
-    returns-5)
+    tie.close (tie.spec returns returns-2 returns-3 (λ c. search needs) (λ c. search needs) (λ c. search needs) returns-4 inner-open-requires
+    (λ c. search needs) returns-5)

@@ -7,9 +7,6 @@ use Rattle.multi_class_queue.proofs.Calls.{refused-unwhole, refused-pas
 use Rattle.multi_class_queue.proofs.refusal.Statement.{statement}
 use Rattle.multi_class_queue.proofs.refusal.Tie as tie
 
-whole-requires : tie.Need-whole-requires
-whole-requires c κs = search needs
-
 returns : tie.Need-returns
 returns c = refused-unwhole (c .before .before .before .args .s .now) (c .before .before .before .args .at) (c .before .before .before .args .x) (sym (c .before .whole .ensures) ∙ c .if1 .left)
 
@@ -27,4 +24,4 @@ returns-3 c = refused-not (c .before .before .before .before .before .args .s .n
 
 pub refusal-spec : {M : Type 1} → statement M
 refusal-spec =
-    tie.close (tie.spec whole-requires returns shared-slice-read-if2 cast-if2 returns-2 returns-3)
+    tie.close (tie.spec (λ c κs. search needs) returns shared-slice-read-if2 cast-if2 returns-2 returns-3)

@@ -17,23 +17,8 @@ use Rattle.regular.proofs.whole.Tie as tie
 returns : tie.Need-returns
 returns c = sym (no-length _ (c .if1 .taken))
 
-sizes-requires : tie.Need-sizes-requires
-sizes-requires c κs = search needs
-
 returns-2 : tie.Need-returns-2
 returns-2 c = sym (no-sizes (c .before .before .before .before .args .s .now) (c .before .before .if1 .left) (sym (c .before .sizes .ensures) ∙ c .if2 .left))
-
-sub-whole-marked : tie.Need-sub-whole-marked
-sub-whole-marked c = search needs
-
-part-whole-marked-start : tie.Need-part-whole-marked-start
-part-whole-marked-start c = search needs
-
-part-whole-marked-end : tie.Need-part-whole-marked-end
-part-whole-marked-end c = search needs
-
-slice-aggregate-whole-marked : tie.Need-slice-aggregate-whole-marked
-slice-aggregate-whole-marked c = search needs
 
 whole-marked-requires : tie.Need-whole-marked-requires
 unfolding unmarked
@@ -42,44 +27,17 @@ whole-marked-requires c κs = refl
 returns-3 : tie.Need-returns-3
 returns-3 c = sym (no-queue (c .before .before .before .before .before .before .before .before .before .args .s .now) (c .before .before .before .before .before .before .before .if1 .left) (sym (c .before .before .before .before .before .before .sizes .ensures) ∙ c .before .before .before .before .before .if2 .taken) (sym (c .before .before .whole-marked .ensures .test) ∙ c .if3 .left))
 
-sub-pairs-ok : tie.Need-sub-pairs-ok
-sub-pairs-ok c = search needs
-
-part-pairs-ok-start : tie.Need-part-pairs-ok-start
-part-pairs-ok-start c = search needs
-
-part-pairs-ok-end : tie.Need-part-pairs-ok-end
-part-pairs-ok-end c = search needs
-
-slice-aggregate-pairs-ok : tie.Need-slice-aggregate-pairs-ok
-slice-aggregate-pairs-ok c = search needs
-
 pairs-ok-requires : tie.Need-pairs-ok-requires
 pairs-ok-requires c κs = ((split (c .before .before .before .before .before .before .before .before .before .before .before .args .s .now) (c .before .before .before .before .before .before .before .before .before .if1 .left) .long-a, (c .before .before .before .before .whole-marked .kept .1 .0, sizes-of (c .before .before .before .before .before .before .before .before .before .before .before .args .s .now) (sym (c .before .before .before .before .before .before .before .before .sizes .ensures) ∙ c .before .before .before .before .before .before .before .if2 .taken) .active)), (omega arith, omega arith))
 
 returns-4 : tie.Need-returns-4
 returns-4 c = sym (no-active (c .before .before .before .before .before .before .before .before .before .before .before .before .before .before .args .s .now) _ (record { long = c .before .before .before .before .before .before .before .before .before .before .before .before .if1 .left; sizes = sym (c .before .before .before .before .before .before .before .before .before .before .before .sizes .ensures) ∙ c .before .before .before .before .before .before .before .before .before .before .if2 .taken; queue = sym (c .before .before .before .before .before .before .before .whole-marked .ensures .test) ∙ c .before .before .before .before .before .if3 .taken; marked = c .before .before .before .before .before .before .before .whole-marked .ensures .marked (c .before .before .before .before .before .if3 .taken); room = c .before .before .before .before .before .before .before .whole-marked .kept .1 .0 }) (sym (c .before .before .pairs-ok .ensures .test) ∙ c .if4 .left))
 
-sub-pairs-ok-2 : tie.Need-sub-pairs-ok-2
-sub-pairs-ok-2 c = search needs
-
-part-pairs-ok-start-2 : tie.Need-part-pairs-ok-start-2
-part-pairs-ok-start-2 c = search needs
-
-part-pairs-ok-end-2 : tie.Need-part-pairs-ok-end-2
-part-pairs-ok-end-2 c = search needs
-
-slice-aggregate-pairs-ok-2 : tie.Need-slice-aggregate-pairs-ok-2
-slice-aggregate-pairs-ok-2 c = search needs
-
 pairs-ok-requires-2 : tie.Need-pairs-ok-requires-2
 pairs-ok-requires-2 c κs = ((split (c .before .before .before .before .before .before .before .before .before .before .before .before .before .before .before .before .args .s .now) (c .before .before .before .before .before .before .before .before .before .before .before .before .before .before .if1 .left) .long-i, (c .before .before .before .before .pairs-ok .kept .1 .0 ∙ c .before .before .before .before .before .before .before .before .before .whole-marked .kept .1 .0, sizes-of (c .before .before .before .before .before .before .before .before .before .before .before .before .before .before .before .before .args .s .now) (sym (c .before .before .before .before .before .before .before .before .before .before .before .before .before .sizes .ensures) ∙ c .before .before .before .before .before .before .before .before .before .before .before .before .if2 .taken) .inactive)), (omega arith, omega arith))
 
 returns-5 : tie.Need-returns-5
 returns-5 c = let s = c .before .before .before .before .before .before .before .before .before .before .before .before .before .before .before .before .before .before .before .args .s .now in sym (no-inactive s _ (record { long = c .before .before .before .before .before .before .before .before .before .before .before .before .before .before .before .before .before .if1 .left; sizes = sym (c .before .before .before .before .before .before .before .before .before .before .before .before .before .before .before .before .sizes .ensures) ∙ c .before .before .before .before .before .before .before .before .before .before .before .before .before .before .before .if2 .taken; queue = sym (c .before .before .before .before .before .before .before .before .before .before .before .before .whole-marked .ensures .test) ∙ c .before .before .before .before .before .before .before .before .before .before .if3 .taken; marked = c .before .before .before .before .before .before .before .before .before .before .before .before .whole-marked .ensures .marked (c .before .before .before .before .before .before .before .before .before .before .if3 .taken); room = c .before .before .before .before .before .before .before .before .before .before .before .before .whole-marked .kept .1 .0 }) (ap (λ (z : List ℕ). pairsB 8191 1 2 2 4 z 0 (tree.read (inactivePart s))) (sym (c .before .before .before .before .before .before .before .pairs-ok .ensures .marks (c .before .before .before .before .before .if4 .taken))) ∙ sym (c .before .before .pairs-ok2 .ensures .test) ∙ c .if5 .left))
-
-slice-aggregate-all-met : tie.Need-slice-aggregate-all-met
-slice-aggregate-all-met c = search needs
 
 all-met-requires : tie.Need-all-met-requires
 all-met-requires c κs = c .before .before .before .pairs-ok2 .kept .1 .0 ∙ c .before .before .before .before .before .before .before .before .pairs-ok .kept .1 .0 ∙ c .before .before .before .before .before .before .before .before .before .before .before .before .before .whole-marked .kept .1 .0
@@ -93,12 +51,6 @@ last-ok-requires c κs = (c .before .before .before .before .before .before .bef
 returns-7 : tie.Need-returns-7
 returns-7 c = sym (no-last (c .before .before .before .before .before .before .before .before .before .before .before .before .before .before .before .before .before .before .before .before .before .before .before .before .args .s .now) _ (record { long = c .before .before .before .before .before .before .before .before .before .before .before .before .before .before .before .before .before .before .before .before .before .before .if1 .left; sizes = sym (c .before .before .before .before .before .before .before .before .before .before .before .before .before .before .before .before .before .before .before .before .before .sizes .ensures) ∙ c .before .before .before .before .before .before .before .before .before .before .before .before .before .before .before .before .before .before .before .before .if2 .taken; queue = sym (c .before .before .before .before .before .before .before .before .before .before .before .before .before .before .before .before .before .whole-marked .ensures .test) ∙ c .before .before .before .before .before .before .before .before .before .before .before .before .before .before .before .if3 .taken; marked = c .before .before .before .before .before .before .before .before .before .before .before .before .before .before .before .before .before .whole-marked .ensures .marked (c .before .before .before .before .before .before .before .before .before .before .before .before .before .before .before .if3 .taken); room = c .before .before .before .before .before .before .before .before .before .before .before .before .before .before .before .before .before .whole-marked .kept .1 .0 }) (sym (c .before .last-ok .ensures) ∙ c .if7 .left))
 
-slice-aggregate-pointed : tie.Need-slice-aggregate-pointed
-slice-aggregate-pointed c = search needs
-
-shared-slice-read-pointed : tie.Need-shared-slice-read-pointed
-shared-slice-read-pointed c = search needs
-
 pointed-requires : tie.Need-pointed-requires
 pointed-requires c κs = c .before .before .before .before .before .before .before .before .before .pairs-ok2 .kept .1 .0 ∙ c .before .before .before .before .before .before .before .before .before .before .before .before .before .before .pairs-ok .kept .1 .0 ∙ c .before .before .before .before .before .before .before .before .before .before .before .before .before .before .before .before .before .before .before .whole-marked .kept .1 .0
 
@@ -107,35 +59,7 @@ returns-8 c = let s = c .before .before .before .before .before .before .before 
 
 pub whole-spec : {M : Type 1} → statement M
 whole-spec =
-    tie.close
-    (tie.spec
-    returns
-    sizes-requires
-    returns-2
-    sub-whole-marked
-    part-whole-marked-start
-    part-whole-marked-end
-    slice-aggregate-whole-marked
-    whole-marked-requires
-    returns-3
-    sub-pairs-ok
-    part-pairs-ok-start
-    part-pairs-ok-end
-    slice-aggregate-pairs-ok
-    pairs-ok-requires
-    returns-4
-    sub-pairs-ok-2
-    part-pairs-ok-start-2
-    part-pairs-ok-end-2
-    slice-aggregate-pairs-ok-2
-    pairs-ok-requires-2
-    returns-5
-    slice-aggregate-all-met
-    all-met-requires
-    returns-6
-    last-ok-requires
-    returns-7
-    slice-aggregate-pointed
-    shared-slice-read-pointed
-    pointed-requires
-    returns-8)
+    tie.close (tie.spec returns (λ c κs. search needs) returns-2 (λ c. search needs) (λ c. search needs) (λ c. search needs) (λ c. search needs)
+    whole-marked-requires returns-3 (λ c. search needs) (λ c. search needs) (λ c. search needs) (λ c. search needs) pairs-ok-requires returns-4
+    (λ c. search needs) (λ c. search needs) (λ c. search needs) (λ c. search needs) pairs-ok-requires-2 returns-5 (λ c. search needs)
+    all-met-requires returns-6 last-ok-requires returns-7 (λ c. search needs) (λ c. search needs) pointed-requires returns-8)

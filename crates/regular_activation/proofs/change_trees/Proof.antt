@@ -13,95 +13,21 @@ use Rattle.regular_activation.proofs.Taking.{inactive-then, part-long-a
 use Rattle.regular_activation.proofs.change_trees.Statement.{statement}
 use Rattle.regular_activation.proofs.change_trees.Tie as tie
 
-sub-copy : tie.Need-sub-copy
-sub-copy c = search needs
-
-part-copy-start : tie.Need-part-copy-start
-part-copy-start c = search needs
-
 part-copy-end : tie.Need-part-copy-end
 part-copy-end c = omega (arith, c .before .before .before .before .pre .0 .0)
-
-slice-aggregate-copy : tie.Need-slice-aggregate-copy
-slice-aggregate-copy c = search needs
-
-copy-requires : tie.Need-copy-requires
-copy-requires c κs = search needs
-
-sub-copy-2 : tie.Need-sub-copy-2
-sub-copy-2 c = search needs
-
-part-copy-start-2 : tie.Need-part-copy-start-2
-part-copy-start-2 c = search needs
-
-part-copy-end-2 : tie.Need-part-copy-end-2
-part-copy-end-2 c = search needs
-
-slice-aggregate-copy-2 : tie.Need-slice-aggregate-copy-2
-slice-aggregate-copy-2 c = search needs
-
-copy-requires-2 : tie.Need-copy-requires-2
-copy-requires-2 c κs = search needs
-
-sub-merge : tie.Need-sub-merge
-sub-merge c = search needs
-
-part-merge-start : tie.Need-part-merge-start
-part-merge-start c = search needs
-
-part-merge-end : tie.Need-part-merge-end
-part-merge-end c = search needs
-
-slice-aggregate-merge : tie.Need-slice-aggregate-merge
-slice-aggregate-merge c = search needs
-
-slice-aggregate-merge-2 : tie.Need-slice-aggregate-merge-2
-slice-aggregate-merge-2 c = search needs
 
 merge-requires : tie.Need-merge-requires
 merge-requires c κs = ((part-long-a (c .before .before .before .before .before .before .before .before .before .before .before .before .before .before .before .before .args .s .now) (c .before .before .before .before .before .before .before .before .before .before .before .before .before .before .before .before .pre .0 .0), sym (c .before .before .before .before .before .before .before .before .before .copy .ensures)), ((ap length (c .before .before .before .before .copy2 .ensures) ∙ part-long-i (c .before .before .before .before .before .before .before .before .before .before .before .before .before .before .before .before .args .s .now) (c .before .before .before .before .before .before .before .before .before .before .before .before .before .before .before .before .pre .0 .0), subst (λ (z : List ℕ). tree.size z ≤ 128) (sym (c .before .before .before .before .copy2 .ensures)) (c .before .before .before .before .before .before .before .before .before .before .before .before .before .before .before .before .pre .0 .1 .0)), (c .before .before .before .before .before .before .before .before .before .before .before .before .before .before .before .before .pre .0 .1 .1 .0, (subst (λ (z : List ℕ). tree.size (c .before .before .before .before .before .before .before .before .before .copy .last .1 .0) + length (filled (c .before .before .before .before .before .before .before .before .before .before .before .before .before .before .before .before .args .slots .now) (tree.read z)) ≤ 128) (sym (c .before .before .before .before .copy2 .ensures)) (subst (λ (z : List ℕ). tree.size z + length (filled (c .before .before .before .before .before .before .before .before .before .before .before .before .before .before .before .before .args .slots .now) (tree.read (inactivePart (c .before .before .before .before .before .before .before .before .before .before .before .before .before .before .before .before .args .s .now)))) ≤ 128) (sym (c .before .before .before .before .before .before .before .before .before .copy .ensures)) (c .before .before .before .before .before .before .before .before .before .before .before .before .before .before .before .before .pre .1 .0)), (subst (λ (z : List ℕ). inOrder 0 (tree.read z) ≡ true) (sym (c .before .before .before .before .before .before .before .before .before .copy .ensures)) (c .before .before .before .before .before .before .before .before .before .before .before .before .before .before .before .before .pre .1 .1 .0), subst (λ (z : List ℕ). inOrder 0 (tree.read z) ≡ true) (sym (c .before .before .before .before .copy2 .ensures)) (c .before .before .before .before .before .before .before .before .before .before .before .before .before .before .before .before .pre .1 .1 .1))))))
 
-sub-remove-marked : tie.Need-sub-remove-marked
-sub-remove-marked c = search needs
-
-part-remove-marked-start : tie.Need-part-remove-marked-start
-part-remove-marked-start c = search needs
-
-part-remove-marked-end : tie.Need-part-remove-marked-end
-part-remove-marked-end c = search needs
-
 remove-marked-requires : tie.Need-remove-marked-requires
 remove-marked-requires c κs = let z = inactive-then (c .before .before .before .before .before .before .before .before .before .before .before .before .before .before .before .before .before .before .before .before .args .s .now) (c .before .before .before .merge .last .0) (c .before .before .before .before .before .before .before .before .before .before .before .before .before .before .before .before .before .before .before .before .pre .0 .0) (c .before .before .before .merge .kept .0 ∙ part-long-a (c .before .before .before .before .before .before .before .before .before .before .before .before .before .before .before .before .before .before .before .before .args .s .now) (c .before .before .before .before .before .before .before .before .before .before .before .before .before .before .before .before .before .before .before .before .pre .0 .0)) in (ap length z ∙ part-long-i (c .before .before .before .before .before .before .before .before .before .before .before .before .before .before .before .before .before .before .before .before .args .s .now) (c .before .before .before .before .before .before .before .before .before .before .before .before .before .before .before .before .before .before .before .before .pre .0 .0), (subst (λ (y : List ℕ). tree.size y ≤ 128) (sym z) (c .before .before .before .before .before .before .before .before .before .before .before .before .before .before .before .before .before .before .before .before .pre .0 .1 .0), c .before .before .before .before .before .before .before .before .before .before .before .before .before .before .before .before .before .before .before .before .pre .0 .1 .1 .1))
-
-same-length : tie.Need-same-length
-same-length c = search needs
 
 returns : tie.Need-returns
 returns c = changed (c .before .before .before .before .before .before .before .before .before .before .before .before .before .before .before .before .before .before .before .before .before .before .before .args .s .now) (c .before .before .before .before .before .before .before .before .before .before .before .before .before .before .before .before .before .before .before .before .before .before .before .pre .0 .0) (c .before .before .before .before .before .before .before .before .before .before .before .before .before .before .before .before .before .before .before .before .before .before .before .args .slots .now) (c .before .before .before .before .before .before .before .before .before .before .before .before .before .before .before .before .before .before .before .before .before .before .before .args .gone .now) (c .before .before .before .before .before .before .before .before .before .before .before .before .before .before .before .before .copy .last .1 .0) (c .before .before .before .before .before .before .before .before .before .before .before .before .before .before .before .before .copy .ensures) (c .before .before .before .before .before .before .before .before .before .before .before .copy2 .last .1 .0) (c .before .before .before .before .before .before .before .before .before .before .before .copy2 .ensures) (c .before .before .before .before .before .before .merge .last .0) (c .before .before .before .before .before .before .merge .kept .0) (c .before .before .before .before .before .before .merge .ensures) (c .before .before .remove-marked .last .0) (c .before .before .remove-marked .kept .0) (c .before .before .remove-marked .ensures)
 
 pub change-trees-spec : {M : Type 1} → statement M
 change-trees-spec =
-    tie.close
-    (tie.spec
-    sub-copy
-    part-copy-start
-    part-copy-end
-    slice-aggregate-copy
-    copy-requires
-    sub-copy-2
-    part-copy-start-2
-    part-copy-end-2
-    slice-aggregate-copy-2
-    copy-requires-2
-    sub-merge
-    part-merge-start
-    part-merge-end
-    slice-aggregate-merge
-    slice-aggregate-merge-2
-    merge-requires
-    sub-remove-marked
-    part-remove-marked-start
-    part-remove-marked-end
-    remove-marked-requires
-    same-length
-    returns)
+    tie.close (tie.spec (λ c. search needs) (λ c. search needs) part-copy-end (λ c. search needs) (λ c κs. search needs) (λ c. search needs)
+    (λ c. search needs) (λ c. search needs) (λ c. search needs) (λ c κs. search needs) (λ c. search needs) (λ c. search needs) (λ c. search needs)
+    (λ c. search needs) (λ c. search needs) merge-requires (λ c. search needs) (λ c. search needs) (λ c. search needs) remove-marked-requires
+    (λ c. search needs) returns)

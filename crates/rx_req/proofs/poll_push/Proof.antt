@@ -7,9 +7,6 @@ use Rattle.rx_req.proofs.Calls.{unwhole, poll-service, poll-looped, pol
 use Rattle.rx_req.proofs.poll_push.Statement.{statement}
 use Rattle.rx_req.proofs.poll_push.Tie as tie
 
-whole-requires : tie.Need-whole-requires
-whole-requires c κs = search needs
-
 returns : tie.Need-returns
 returns c = unwhole (pollPush (c .before .before .before .args .service) (c .before .before .before .args .loop-back)) (c .before .before .before .args .s .now) (sym (c .before .whole .ensures) ∙ c .if1 .left) .0
 
@@ -18,9 +15,6 @@ returns-2 c = poll-service (c .before .before .before .before .args .service) (c
 
 returns-3 : tie.Need-returns-3
 returns-3 c = poll-looped (c .before .before .before .before .before .args .service) (c .before .before .before .before .before .args .loop-back) (c .before .before .before .before .before .args .s .now) (sym (c .before .before .before .whole .ensures) ∙ c .before .before .if1 .taken) (c .before .if2 .left) (c .if3 .taken)
-
-cast-first-on : tie.Need-cast-first-on
-cast-first-on c = search needs
 
 first-on-requires : tie.Need-first-on-requires
 first-on-requires c κs = let k = known (c .before .before .before .before .before .args .s .now) (sym (c .before .before .before .whole .ensures) ∙ c .before .before .if1 .taken) in (k .long, k .few)
@@ -39,15 +33,5 @@ returns-5 c = poll-at (c .before .before .before .before .before .before .before
 
 pub poll-push-spec : {M : Type 1} → statement M
 poll-push-spec =
-    tie.close
-    (tie.spec
-    whole-requires
-    returns
-    returns-2
-    returns-3
-    cast-first-on
-    first-on-requires
-    len-requires
-    returns-4
-    entry-at-requires
-    returns-5)
+    tie.close (tie.spec (λ c κs. search needs) returns returns-2 returns-3 (λ c. search needs) first-on-requires len-requires returns-4
+    entry-at-requires returns-5)

@@ -13,17 +13,8 @@ use Rattle.tx_change.proofs.Acts.{became}
 use Rattle.tx_change.proofs.becomes.Statement.{statement}
 use Rattle.tx_change.proofs.becomes.Tie as tie
 
-place-requires : tie.Need-place-requires
-place-requires c κs = search needs
-
 slice-read-wakes : tie.Need-slice-read-wakes
 slice-read-wakes c = omega (arith, known (c .before .before .before .args .s .now) (c .before .before .before .pre .0) .long)
-
-wakes-requires : tie.Need-wakes-requires
-wakes-requires c κs = search needs
-
-requeue-requires : tie.Need-requeue-requires
-requeue-requires c κs = search needs
 
 set-sets-requires : tie.Need-set-sets-requires
 set-sets-requires c κs = (omega (arith, known (c .before .before .before .before .before .before .before .before .before .args .s .now) (c .before .before .before .before .before .before .before .before .before .pre .0) .long, c .before .before .before .requeue .kept .0), c .before .before .before .before .before .before .before .before .before .pre .1 .0)
@@ -39,13 +30,5 @@ returns c = let s = c .before .before .before .before .before .before .before .b
 
 pub becomes-spec : {M : Type 1} → statement M
 becomes-spec =
-    tie.close
-    (tie.spec
-    place-requires
-    slice-read-wakes
-    wakes-requires
-    requeue-requires
-    set-sets-requires
-    slice-write-s
-    same-length
-    returns)
+    tie.close (tie.spec (λ c κs. search needs) slice-read-wakes (λ c κs. search needs) (λ c κs. search needs) set-sets-requires slice-write-s
+    same-length returns)

@@ -9,23 +9,11 @@ use Rattle.tx_change.proofs.Looks.{front-some, front-none}
 use Rattle.tx_change.proofs.front.Statement.{statement}
 use Rattle.tx_change.proofs.front.Tie as tie
 
-sub-inner-front : tie.Need-sub-inner-front
-sub-inner-front c = search needs
-
-part-inner-front-start : tie.Need-part-inner-front-start
-part-inner-front-start c = search needs
-
 part-inner-front-end : tie.Need-part-inner-front-end
 part-inner-front-end c = omega (arith, known (c .before .args .s .now) (c .before .pre .0) .long)
 
 inner-front-requires : tie.Need-inner-front-requires
 inner-front-requires c κs = let k = known (c .before .before .args .s .now) (c .before .before .pre .0) in (k .queue, omega (arith, k .classes, c .before .before .pre .1))
-
-enum-known-e : tie.Need-enum-known-e
-enum-known-e c = search needs
-
-enum-told : tie.Need-enum-told
-enum-told c = search needs
 
 returns : tie.Need-returns
 returns c = front-some (getD (read (c .before .before .before .before .before .before .args .s .now) .queues) (c .before .before .before .before .before .before .args .k) []) _ (sym (c .before .before .before .inner-front .ensures) ∙ c .before .e .given .1)
@@ -35,13 +23,5 @@ returns-2 c = front-none (getD (read (c .before .before .before .before .before 
 
 pub front-spec : {M : Type 1} → statement M
 front-spec =
-    tie.close
-    (tie.spec
-    sub-inner-front
-    part-inner-front-start
-    part-inner-front-end
-    inner-front-requires
-    enum-known-e
-    enum-told
-    returns
-    returns-2)
+    tie.close (tie.spec (λ c. search needs) (λ c. search needs) part-inner-front-end inner-front-requires (λ c. search needs) (λ c. search needs)
+    returns returns-2)

@@ -7,17 +7,8 @@ use Rattle.tx_change.proofs.Calls.{entry-inside, unframed-all}
 use Rattle.tx_change.proofs.settle_nothing.Statement.{statement}
 use Rattle.tx_change.proofs.settle_nothing.Tie as tie
 
-front-requires : tie.Need-front-requires
-front-requires c κs = search needs
-
 slice-read-mask : tie.Need-slice-read-mask
 slice-read-mask c = omega (arith, known (c .before .before .before .before .args .s .now) (c .before .before .before .before .pre .0) .long)
-
-cast-started : tie.Need-cast-started
-cast-started c = search needs
-
-add-started : tie.Need-add-started
-add-started c = search needs
 
 slice-read-started : tie.Need-slice-read-started
 slice-read-started c = omega (arith, known (c .before .before .before .before .before .args .s .now) (c .before .before .before .before .before .pre .0) .long, entry-inside (c .before .before .before .before .before .args .s .now) (λ i. omega (arith, c .before .before .before .before .slice-known .given i)) (c .before .before .before .before .before .pre .0) (c .before .before .before .before .before .args .k) (c .before .before .before .before .before .pre .1 .0) _ (c .before .before .front .ensures))
@@ -36,14 +27,5 @@ returns c = unframed-all (c .before .before .before .before .before .before .bef
 
 pub settle-nothing-spec : {M : Type 1} → statement M
 settle-nothing-spec =
-    tie.close
-    (tie.spec
-    front-requires
-    slice-read-mask
-    cast-started
-    add-started
-    slice-read-started
-    becomes-requires
-    slice-write-s
-    same-length
-    returns)
+    tie.close (tie.spec (λ c κs. search needs) slice-read-mask (λ c. search needs) (λ c. search needs) slice-read-started becomes-requires
+    slice-write-s same-length returns)

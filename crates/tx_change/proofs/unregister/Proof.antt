@@ -15,49 +15,22 @@ returns c = let s = c .before .before .args .s .now in let e = c .before .before
 is-open-requires : tie.Need-is-open-requires
 is-open-requires c κs = known (c .before .before .before .args .s .now) (c .before .before .before .pre) .long
 
-same-length : tie.Need-same-length
-same-length c = search needs
-
 returns-2 : tie.Need-returns-2
 returns-2 c = let s = c .before .before .before .before .before .args .s .now in let e = c .before .before .before .before .before .args .entry in refused s (unregister e (read s)) (Refused 10) (pick-open (read s) e (unregister e (read s)) _ (unregister-is (read s) e) (omega (arith, c .before .before .before .if1 .left)) (sym (c .before .is-open .ensures) ∙ c .if2 .taken))
-
-cast-is-registered : tie.Need-cast-is-registered
-cast-is-registered c = search needs
 
 is-registered-requires : tie.Need-is-registered-requires
 is-registered-requires c κs = (known (c .before .before .before .before .before .before .args .s .now) (c .before .before .before .before .before .before .pre) .long, omega (arith, c .before .before .before .before .if1 .left))
 
-same-length-2 : tie.Need-same-length-2
-same-length-2 c = search needs
-
 returns-3 : tie.Need-returns-3
 returns-3 c = let s = c .before .before .before .before .before .before .before .before .args .s .now in let e = c .before .before .before .before .before .before .before .before .args .entry in refused s (unregister e (read s)) (Refused 8) (unknown (read s) e (unregister e (read s)) _ (unregister-is (read s) e) (omega (arith, c .before .before .before .before .before .before .if1 .left)) (sym (c .before .before .before .before .is-open .ensures) ∙ c .before .before .before .if2 .left) (sym (c .before .is-registered .ensures) ∙ c .if3 .left))
 
-cast-leave : tie.Need-cast-leave
-cast-leave c = search needs
-
 leave-requires : tie.Need-leave-requires
 leave-requires c κs = ((c .before .before .before .before .before .before .before .before .before .pre), (omega (arith, c .before .before .before .before .before .before .before .if1 .left), none-open (read (c .before .before .before .before .before .before .before .before .before .args .s .now) .pick) (sym (c .before .before .before .before .before .is-open .ensures) ∙ c .before .before .before .before .if2 .left)))
-
-same-length-3 : tie.Need-same-length-3
-same-length-3 c = search needs
 
 returns-4 : tie.Need-returns-4
 returns-4 c = let s = c .before .before .before .before .before .before .before .before .before .before .before .before .args .s .now in let e = c .before .before .before .before .before .before .before .before .before .before .before .before .args .entry in changed s (unregister e (read s)) _ _ _ _ (registered (read s) e (unregister e (read s)) _ (unregister-is (read s) e) (omega (arith, c .before .before .before .before .before .before .before .before .before .before .if1 .left)) (sym (c .before .before .before .before .before .before .before .before .is-open .ensures) ∙ c .before .before .before .before .before .before .before .if2 .left) (sym (c .before .before .before .before .before .is-registered .ensures) ∙ c .before .before .before .before .if3 .taken)) refl (c .before .before .leave .ensures)
 
 pub unregister-spec : {M : Type 1} → statement M
 unregister-spec =
-    tie.close
-    (tie.spec
-    returns
-    is-open-requires
-    same-length
-    returns-2
-    cast-is-registered
-    is-registered-requires
-    same-length-2
-    returns-3
-    cast-leave
-    leave-requires
-    same-length-3
-    returns-4)
+    tie.close (tie.spec returns is-open-requires (λ c. search needs) returns-2 (λ c. search needs) is-registered-requires (λ c. search needs)
+    returns-3 (λ c. search needs) leave-requires (λ c. search needs) returns-4)

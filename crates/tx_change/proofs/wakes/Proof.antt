@@ -10,11 +10,9 @@ returns c = wakes-none (c .before .args .mask) (c .before .args .from) (c .befor
 returns-2 : tie.Need-returns-2
 returns-2 c = wakes-same (c .before .before .args .mask) (c .before .before .args .from) (c .before .before .args .to) (c .if2 .taken)
 
-is-masked-requires : tie.Need-is-masked-requires
-is-masked-requires c κs = search needs
-
 returns-3 : tie.Need-returns-3
 returns-3 c = wakes-masked (c .before .before .before .args .mask) (c .before .before .before .args .from) (c .before .before .before .args .to) (omega (arith, c .before .before .if1 .left)) (c .before .if2 .left) _ (c .is-masked .ensures)
 
 pub wakes-spec : {M : Type 1} → statement M
-wakes-spec = tie.close (tie.spec returns returns-2 is-masked-requires returns-3)
+wakes-spec =
+    tie.close (tie.spec returns returns-2 (λ c κs. search needs) returns-3)

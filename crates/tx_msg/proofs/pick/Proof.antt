@@ -13,20 +13,8 @@ use Rattle.tx_msg.proofs.Calls.{over-queue}
 use Rattle.tx_msg.proofs.pick.Statement.{statement}
 use Rattle.tx_msg.proofs.pick.Tie as tie
 
-whole-requires : tie.Need-whole-requires
-whole-requires c κs = search needs
-
-same-length : tie.Need-same-length
-same-length c = search needs
-
 returns : tie.Need-returns
 returns c = not-whole wholeB read laid (Refused 1) (pick (c .before .before .before .before .args .mask) (c .before .before .before .before .args .mtu)) (c .before .before .before .before .args .s .now) (sym (c .before .whole .ensures) ∙ c .if1 .left)
-
-sub-pick : tie.Need-sub-pick
-sub-pick c = search needs
-
-part-pick-start : tie.Need-part-pick-start
-part-pick-start c = search needs
 
 part-pick-end : tie.Need-part-pick-end
 part-pick-end c = omega (arith, whole-of (c .before .before .before .before .args .s .now) (sym (c .before .whole .ensures) ∙ c .if1 .taken) .long)
@@ -34,22 +22,10 @@ part-pick-end c = omega (arith, whole-of (c .before .before .before .before .arg
 pick-requires : tie.Need-pick-requires
 pick-requires c κs = whole-of (c .before .before .before .before .before .args .s .now) (sym (c .before .before .whole .ensures) ∙ c .before .if1 .taken) .queue
 
-same-length-2 : tie.Need-same-length-2
-same-length-2 c = search needs
-
 returns-2 : tie.Need-returns-2
 returns-2 c = over-queue (c .before .before .before .before .before .before .before .before .args .s .now) (sym (c .before .before .before .before .before .whole .ensures) ∙ c .before .before .before .before .if1 .taken) (bytes-of (c .before .before .before .before .before .before .before .before .args .s .now) (c .before .before .before .before .before .before .before .slice-known .given)) (pick (c .before .before .before .before .before .before .before .before .args .mask) (c .before .before .before .before .before .before .before .before .args .mtu)) (steps.pick (c .before .before .before .before .before .before .before .before .args .mask) (c .before .before .before .before .before .before .before .before .args .mtu) (queue.read (queuePart (c .before .before .before .before .before .before .before .before .args .s .now)))) refl _ _ (c .before .before .pick .kept .0) (c .before .before .pick .ensures)
 
 pub pick-spec : {M : Type 1} → statement M
 pick-spec =
-    tie.close
-    (tie.spec
-    whole-requires
-    same-length
-    returns
-    sub-pick
-    part-pick-start
-    part-pick-end
-    pick-requires
-    same-length-2
-    returns-2)
+    tie.close (tie.spec (λ c κs. search needs) (λ c. search needs) returns (λ c. search needs) (λ c. search needs) part-pick-end pick-requires
+    (λ c. search needs) returns-2)

@@ -14,20 +14,8 @@ use Rattle.tx_msg.proofs.Calls.{over-queue}
 use Rattle.tx_msg.proofs.settle.Statement.{statement}
 use Rattle.tx_msg.proofs.settle.Tie as tie
 
-whole-requires : tie.Need-whole-requires
-whole-requires c κs = search needs
-
-same-length : tie.Need-same-length
-same-length c = search needs
-
 returns : tie.Need-returns
 returns c = not-whole wholeB read laid (Refused 1) (settle (reported (c .before .before .before .before .args .frame) (c .before .before .before .before .args .priority) (c .before .before .before .before .args .length) (c .before .before .before .before .args .last)) (c .before .before .before .before .args .readiness)) (c .before .before .before .before .args .s .now) (sym (c .before .whole .ensures) ∙ c .if1 .left)
-
-sub-settle : tie.Need-sub-settle
-sub-settle c = search needs
-
-part-settle-start : tie.Need-part-settle-start
-part-settle-start c = search needs
 
 part-settle-end : tie.Need-part-settle-end
 part-settle-end c = omega (arith, whole-of (c .before .before .before .before .args .s .now) (sym (c .before .whole .ensures) ∙ c .if1 .taken) .long)
@@ -35,22 +23,10 @@ part-settle-end c = omega (arith, whole-of (c .before .before .before .before .a
 settle-requires : tie.Need-settle-requires
 settle-requires c κs = whole-of (c .before .before .before .before .before .args .s .now) (sym (c .before .before .whole .ensures) ∙ c .before .if1 .taken) .queue
 
-same-length-2 : tie.Need-same-length-2
-same-length-2 c = search needs
-
 returns-2 : tie.Need-returns-2
 returns-2 c = over-queue (c .before .before .before .before .before .before .before .before .args .s .now) (sym (c .before .before .before .before .before .whole .ensures) ∙ c .before .before .before .before .if1 .taken) (bytes-of (c .before .before .before .before .before .before .before .before .args .s .now) (c .before .before .before .before .before .before .before .slice-known .given)) (settle (reported (c .before .before .before .before .before .before .before .before .args .frame) (c .before .before .before .before .before .before .before .before .args .priority) (c .before .before .before .before .before .before .before .before .args .length) (c .before .before .before .before .before .before .before .before .args .last)) (c .before .before .before .before .before .before .before .before .args .readiness)) (steps.settle (reported (c .before .before .before .before .before .before .before .before .args .frame) (c .before .before .before .before .before .before .before .before .args .priority) (c .before .before .before .before .before .before .before .before .args .length) (c .before .before .before .before .before .before .before .before .args .last)) (c .before .before .before .before .before .before .before .before .args .readiness) (queue.read (queuePart (c .before .before .before .before .before .before .before .before .args .s .now)))) refl _ _ (c .before .before .settle .kept .0) (c .before .before .settle .ensures)
 
 pub settle-spec : {M : Type 1} → statement M
 settle-spec =
-    tie.close
-    (tie.spec
-    whole-requires
-    same-length
-    returns
-    sub-settle
-    part-settle-start
-    part-settle-end
-    settle-requires
-    same-length-2
-    returns-2)
+    tie.close (tie.spec (λ c κs. search needs) (λ c. search needs) returns (λ c. search needs) (λ c. search needs) part-settle-end settle-requires
+    (λ c. search needs) returns-2)

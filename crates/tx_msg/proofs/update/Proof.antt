@@ -13,20 +13,8 @@ use Rattle.tx_msg.proofs.Calls.{over-queue}
 use Rattle.tx_msg.proofs.update.Statement.{statement}
 use Rattle.tx_msg.proofs.update.Tie as tie
 
-whole-requires : tie.Need-whole-requires
-whole-requires c κs = search needs
-
-same-length : tie.Need-same-length
-same-length c = search needs
-
 returns : tie.Need-returns
 returns c = not-whole wholeB read laid (Refused 1) (update (c .before .before .before .before .args .entry) (c .before .before .before .before .args .readiness)) (c .before .before .before .before .args .s .now) (sym (c .before .whole .ensures) ∙ c .if1 .left)
-
-sub-update : tie.Need-sub-update
-sub-update c = search needs
-
-part-update-start : tie.Need-part-update-start
-part-update-start c = search needs
 
 part-update-end : tie.Need-part-update-end
 part-update-end c = omega (arith, whole-of (c .before .before .before .before .args .s .now) (sym (c .before .whole .ensures) ∙ c .if1 .taken) .long)
@@ -34,22 +22,10 @@ part-update-end c = omega (arith, whole-of (c .before .before .before .before .a
 update-requires : tie.Need-update-requires
 update-requires c κs = whole-of (c .before .before .before .before .before .args .s .now) (sym (c .before .before .whole .ensures) ∙ c .before .if1 .taken) .queue
 
-same-length-2 : tie.Need-same-length-2
-same-length-2 c = search needs
-
 returns-2 : tie.Need-returns-2
 returns-2 c = over-queue (c .before .before .before .before .before .before .before .before .args .s .now) (sym (c .before .before .before .before .before .whole .ensures) ∙ c .before .before .before .before .if1 .taken) (bytes-of (c .before .before .before .before .before .before .before .before .args .s .now) (c .before .before .before .before .before .before .before .slice-known .given)) (update (c .before .before .before .before .before .before .before .before .args .entry) (c .before .before .before .before .before .before .before .before .args .readiness)) (steps.update (c .before .before .before .before .before .before .before .before .args .entry) (c .before .before .before .before .before .before .before .before .args .readiness) (queue.read (queuePart (c .before .before .before .before .before .before .before .before .args .s .now)))) refl _ _ (c .before .before .update .kept .0) (c .before .before .update .ensures)
 
 pub update-spec : {M : Type 1} → statement M
 update-spec =
-    tie.close
-    (tie.spec
-    whole-requires
-    same-length
-    returns
-    sub-update
-    part-update-start
-    part-update-end
-    update-requires
-    same-length-2
-    returns-2)
+    tie.close (tie.spec (λ c κs. search needs) (λ c. search needs) returns (λ c. search needs) (λ c. search needs) part-update-end update-requires
+    (λ c. search needs) returns-2)

@@ -6,15 +6,6 @@ use Rattle.tx_queue.proofs.Turns.{has-entry, has-none}
 use Rattle.tx_queue.proofs.is_filled.Statement.{statement}
 use Rattle.tx_queue.proofs.is_filled.Tie as tie
 
-inner-front-requires : tie.Need-inner-front-requires
-inner-front-requires c κs = search needs
-
-enum-told : tie.Need-enum-told
-enum-told c = search needs
-
-enum-told-2 : tie.Need-enum-told-2
-enum-told-2 c = search needs
-
 returns : tie.Need-returns
 returns c = has-entry (row (read (c .before .before .before .before .args .q .now)) (c .before .before .before .before .args .class)) (sym (c .before .before .inner-front .ensures) ∙ c .enum-told .given .1)
 
@@ -22,4 +13,5 @@ returns-2 : tie.Need-returns-2
 returns-2 c = has-none (row (read (c .before .before .before .before .args .q .now)) (c .before .before .before .before .args .class)) (sym (c .before .before .inner-front .ensures) ∙ c .enum-told2 .given .1)
 
 pub is-filled-spec : {M : Type 1} → statement M
-is-filled-spec = tie.close (tie.spec inner-front-requires enum-told enum-told-2 returns returns-2)
+is-filled-spec =
+    tie.close (tie.spec (λ c κs. search needs) (λ c. search needs) (λ c. search needs) returns returns-2)

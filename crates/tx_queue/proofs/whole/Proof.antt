@@ -8,23 +8,8 @@ use Rattle.tx_queue.proofs.whole.Tie as tie
 returns : tie.Need-returns
 returns c = sym (no-length (c .before .before .args .s .now) (c .if1 .taken))
 
-sizes-requires : tie.Need-sizes-requires
-sizes-requires c κs = search needs
-
 returns-2 : tie.Need-returns-2
 returns-2 c = sym (no-sizes (c .before .before .before .before .args .s .now) (c .before .before .if1 .left) (sym (c .before .sizes .ensures) ∙ c .if2 .left))
-
-sub-whole-marked : tie.Need-sub-whole-marked
-sub-whole-marked c = search needs
-
-part-whole-marked-start : tie.Need-part-whole-marked-start
-part-whole-marked-start c = search needs
-
-part-whole-marked-end : tie.Need-part-whole-marked-end
-part-whole-marked-end c = search needs
-
-slice-aggregate-whole-marked : tie.Need-slice-aggregate-whole-marked
-slice-aggregate-whole-marked c = search needs
 
 whole-marked-requires : tie.Need-whole-marked-requires
 unfolding unmarked
@@ -32,12 +17,6 @@ whole-marked-requires c κs = refl
 
 returns-3 : tie.Need-returns-3
 returns-3 c = sym (no-queue (c .before .before .before .before .before .before .before .before .before .args .s .now) (c .before .before .before .before .before .before .before .if1 .left) (sym (c .before .before .before .before .before .before .sizes .ensures) ∙ c .before .before .before .before .before .if2 .taken) (sym (c .before .before .whole-marked .ensures .test) ∙ c .if3 .left))
-
-slice-aggregate-marks-ok : tie.Need-slice-aggregate-marks-ok
-slice-aggregate-marks-ok c = search needs
-
-marks-ok-requires : tie.Need-marks-ok-requires
-marks-ok-requires c κs = search needs
 
 returns-4 : tie.Need-returns-4
 returns-4 c = sym (no-placed (c .before .before .before .before .before .before .before .before .before .before .before .before .args .s .now) _ (record { long = c .before .before .before .before .before .before .before .before .before .before .if1 .left; sizes = sym (c .before .before .before .before .before .before .before .before .before .sizes .ensures) ∙ c .before .before .before .before .before .before .before .before .if2 .taken; queue = sym (c .before .before .before .before .before .whole-marked .ensures .test) ∙ c .before .before .before .if3 .taken; marked = c .before .before .before .before .before .whole-marked .ensures .marked (c .before .before .before .if3 .taken) }) (sym (c .before .marks-ok .ensures) ∙ c .if4 .left))
@@ -50,19 +29,5 @@ returns-5 c = c .pick-ok .ensures ∙ sym (whole-last (c .before .before .before
 
 pub whole-spec : {M : Type 1} → statement M
 whole-spec =
-    tie.close
-    (tie.spec
-    returns
-    sizes-requires
-    returns-2
-    sub-whole-marked
-    part-whole-marked-start
-    part-whole-marked-end
-    slice-aggregate-whole-marked
-    whole-marked-requires
-    returns-3
-    slice-aggregate-marks-ok
-    marks-ok-requires
-    returns-4
-    pick-ok-requires
-    returns-5)
+    tie.close (tie.spec returns (λ c κs. search needs) returns-2 (λ c. search needs) (λ c. search needs) (λ c. search needs) (λ c. search needs)
+    whole-marked-requires returns-3 (λ c. search needs) (λ c κs. search needs) returns-4 pick-ok-requires returns-5)

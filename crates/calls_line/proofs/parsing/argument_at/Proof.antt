@@ -11,17 +11,8 @@ use Rattle.calls_line.proofs.parsing.argument_at.Tie as tie
 returns : tie.Need-returns
 returns c = (front-end (c .before .before .args .text .now) (c .before .before .args .at) (c .if1 .taken), omega arith)
 
-shared-slice-read-if2 : tie.Need-shared-slice-read-if2
-shared-slice-read-if2 c = search needs
-
 returns-2 : tie.Need-returns-2
 returns-2 c = (front-other (c .before .before .before .before .args .text .now) (c .before .before .before .before .args .at) (omega arith) (c .if2 .taken), omega arith)
-
-add-digits : tie.Need-add-digits
-add-digits c = search needs
-
-digits-requires : tie.Need-digits-requires
-digits-requires c κs = search needs
 
 returns-3 : tie.Need-returns-3
 returns-3 c = (front-short (c .before .before .before .before .before .before .args .text .now) (c .before .before .before .before .before .before .args .at) (omega arith) (c .before .before .if2 .left) (c .before .digits .result) (c .before .digits .ensures .0) (c .if3 .taken), omega arith)
@@ -29,34 +20,10 @@ returns-3 c = (front-short (c .before .before .before .before .before .before .a
 returns-4 : tie.Need-returns-4
 returns-4 c = (front-long (c .before .before .before .before .before .before .before .args .text .now) (c .before .before .before .before .before .before .before .args .at) (omega arith) (c .before .before .before .if2 .left) (c .before .before .digits .result) (c .before .before .digits .ensures .0) (c .if4 .taken), omega arith)
 
-add-end : tie.Need-add-end
-add-end c = search needs
-
-add-end-2 : tie.Need-add-end-2
-add-end-2 c = search needs
-
-add-value : tie.Need-add-value
-add-value c = search needs
-
-value-requires : tie.Need-value-requires
-value-requires c κs = search needs
-
 returns-5 : tie.Need-returns-5
 returns-5 c = (front-number (c .before .before .before .before .before .before .before .before .args .text .now) (c .before .before .before .before .before .before .before .before .args .at) (omega arith) (c .before .before .before .before .if2 .left) (c .before .before .before .digits .result) (c .before .before .before .digits .ensures .0) (omega arith) (omega arith) (c .value .result) (c .before .before .before .before .before .before .before .before .args .at + 1 + c .before .before .before .digits .result) refl (c .value .ensures), omega arith)
 
 pub argument-at-spec : {M : Type 1} → statement M
 argument-at-spec =
-    tie.close
-    (tie.spec
-    returns
-    shared-slice-read-if2
-    returns-2
-    add-digits
-    digits-requires
-    returns-3
-    returns-4
-    add-end
-    add-end-2
-    add-value
-    value-requires
-    returns-5)
+    tie.close (tie.spec returns (λ c. search needs) returns-2 (λ c. search needs) (λ c κs. search needs) returns-3 returns-4 (λ c. search needs)
+    (λ c. search needs) (λ c. search needs) (λ c κs. search needs) returns-5)

@@ -5,15 +5,6 @@ use Rattle.calls_line.proofs.ReadLaws.{last-absent, last-number, last-m
 use Rattle.calls_line.proofs.parsing.last_argument.Statement.{statement}
 use Rattle.calls_line.proofs.parsing.last_argument.Tie as tie
 
-argument-at-requires : tie.Need-argument-at-requires
-argument-at-requires c κs = search needs
-
-enum-told : tie.Need-enum-told
-enum-told c = search needs
-
-enum-known-found : tie.Need-enum-known-found
-enum-known-found c = search needs
-
 returns : tie.Need-returns
 returns c = last-number (c .before .before .before .before .before .before .args .text .now) (c .before .before .before .before .argument-at .result) (front (drop (c .before .before .before .before .before .before .args .at) (c .before .before .before .before .before .before .args .text .now))) (c .before .before .before .before .argument-at .ensures .0) (c .before .before .found .given .0 .0) (c .before .before .found .given .0 .1 .0) (c .before .before .found .given .1) (c .if1 .taken)
 
@@ -25,5 +16,4 @@ returns-3 c = last-more (c .before .before .before .before .before .before .args
 
 pub last-argument-spec : {M : Type 1} → statement M
 last-argument-spec =
-    tie.close
-    (tie.spec argument-at-requires enum-told enum-known-found returns returns-2 returns-3)
+    tie.close (tie.spec (λ c κs. search needs) (λ c. search needs) (λ c. search needs) returns returns-2 returns-3)

@@ -12,20 +12,8 @@ returns c = parsed-empty (c .before .before .args .text .now) (c .if1 .taken)
 returns-2 : tie.Need-returns-2
 returns-2 c = parsed-long (c .before .before .before .args .text .now) (c .if2 .taken)
 
-shared-slice-read-match : tie.Need-shared-slice-read-match
-shared-slice-read-match c = search needs
-
-register-call-requires : tie.Need-register-call-requires
-register-call-requires c κs = search needs
-
-unregister-call-requires : tie.Need-unregister-call-requires
-unregister-call-requires c κs = search needs
-
 returns-3 : tie.Need-returns-3
 returns-3 c = alone-one Poll (c .before .before .before .before .before .before .args .text .now) (c .if3 .taken) ∙ sym (parsed-poll (c .before .before .before .before .before .before .args .text .now) (omega arith) (c .before .before .before .if2 .left) (c .before .match .keys3))
-
-walk-call-requires : tie.Need-walk-call-requires
-walk-call-requires c κs = search needs
 
 returns-4 : tie.Need-returns-4
 returns-4 c = c .register-call .ensures ∙ sym (parsed-register (c .before .before .before .before .before .before .args .text .now) (omega arith) (c .before .before .before .if2 .left) (c .before .match .keys1))
@@ -44,17 +32,5 @@ returns-8 c = parsed-other (c .before .before .before .before .before .args .tex
 
 pub parse-spec : {M : Type 1} → statement M
 parse-spec =
-    tie.close
-    (tie.spec
-    returns
-    returns-2
-    shared-slice-read-match
-    register-call-requires
-    unregister-call-requires
-    returns-3
-    walk-call-requires
-    returns-4
-    returns-5
-    returns-6
-    returns-7
-    returns-8)
+    tie.close (tie.spec returns returns-2 (λ c. search needs) (λ c κs. search needs) (λ c κs. search needs) returns-3 (λ c κs. search needs)
+    returns-4 returns-5 returns-6 returns-7 returns-8)

@@ -7,23 +7,8 @@ use Rattle.calls_line.proofs.ReadLaws.{two-absent, two-number, last-non
 use Rattle.calls_line.proofs.parsing.register_call.Statement.{statement}
 use Rattle.calls_line.proofs.parsing.register_call.Tie as tie
 
-argument-at-requires : tie.Need-argument-at-requires
-argument-at-requires c κs = search needs
-
-enum-told : tie.Need-enum-told
-enum-told c = search needs
-
-enum-known-first : tie.Need-enum-known-first
-enum-known-first c = search needs
-
 last-argument-requires : tie.Need-last-argument-requires
 last-argument-requires c κs = ends (c .before .before .before .before .before .args .text .now) (c .before .before .before .argument-at .result) (front (drop 1 (c .before .before .before .before .before .args .text .now))) (c .before .before .before .argument-at .ensures .0) (c .before .first .given .0 .0) (c .before .first .given .0 .1 .0) (c .before .first .given .1) (c .before .before .before .argument-at .ensures .1)
-
-enum-told-2 : tie.Need-enum-told-2
-enum-told-2 c = search needs
-
-enum-known-second : tie.Need-enum-known-second
-enum-known-second c = search needs
 
 returns : tie.Need-returns
 returns c = two-absent (c .before .before .before .before .args .text .now) (c .before .before .argument-at .result) (front (drop 1 (c .before .before .before .before .args .text .now))) (c .before .before .argument-at .ensures .0) (c .enum-told .given .1) Register
@@ -36,14 +21,5 @@ returns-3 c = last-taken (Register (c .before .before .before .before .before .f
 
 pub register-call-spec : {M : Type 1} → statement M
 register-call-spec =
-    tie.close
-    (tie.spec
-    argument-at-requires
-    enum-told
-    enum-known-first
-    last-argument-requires
-    enum-told-2
-    enum-known-second
-    returns
-    returns-2
-    returns-3)
+    tie.close (tie.spec (λ c κs. search needs) (λ c. search needs) (λ c. search needs) last-argument-requires (λ c. search needs) (λ c. search needs)
+    returns returns-2 returns-3)

@@ -4,15 +4,6 @@ use Rattle.calls_line.proofs.ReadLaws.{last-none, last-taken}
 use Rattle.calls_line.proofs.parsing.walk_call.Statement.{statement}
 use Rattle.calls_line.proofs.parsing.walk_call.Tie as tie
 
-last-argument-requires : tie.Need-last-argument-requires
-last-argument-requires c κs = search needs
-
-enum-told : tie.Need-enum-told
-enum-told c = search needs
-
-enum-known-found : tie.Need-enum-known-found
-enum-known-found c = search needs
-
 returns : tie.Need-returns
 returns c = last-none Walk (c .before .before .last-argument .ensures Walk) (c .enum-told .given .1)
 
@@ -21,4 +12,4 @@ returns-2 c = last-taken Walk (c .before .before .before .last-argument .ensures
 
 pub walk-call-spec : {M : Type 1} → statement M
 walk-call-spec =
-    tie.close (tie.spec last-argument-requires enum-told enum-known-found returns returns-2)
+    tie.close (tie.spec (λ c κs. search needs) (λ c. search needs) (λ c. search needs) returns returns-2)

@@ -6,20 +6,8 @@ use Rattle.calls_line.proofs.PrintLaws.{put-head}
 use Rattle.calls_line.proofs.printing.put_head.Statement.{statement}
 use Rattle.calls_line.proofs.printing.put_head.Tie as tie
 
-slice-write-out : tie.Need-slice-write-out
-slice-write-out c = search needs
-
 slice-write-out-2 : tie.Need-slice-write-out-2
 slice-write-out-2 c = simp length-set (omega (arith, c .before .pre))
-
-number-requires : tie.Need-number-requires
-number-requires c κs = search needs
-
-cast-put-number : tie.Need-cast-put-number
-cast-put-number c = search needs
-
-put-number-requires : tie.Need-put-number-requires
-put-number-requires c κs = search needs
 
 same-length : tie.Need-same-length
 same-length c = c .before .before .put-number .kept .0 ∙ length-set (set (c .before .before .before .before .before .before .args .out .now) 0 (c .before .before .before .before .before .before .args .letter)) 1 32 ∙ length-set (c .before .before .before .before .before .before .args .out .now) 0 (c .before .before .before .before .before .before .args .letter)
@@ -29,12 +17,4 @@ returns c = put-head (c .before .before .before .before .before .before .args .a
 
 pub put-head-spec : {M : Type 1} → statement M
 put-head-spec =
-    tie.close
-    (tie.spec
-    slice-write-out
-    slice-write-out-2
-    number-requires
-    cast-put-number
-    put-number-requires
-    same-length
-    returns)
+    tie.close (tie.spec (λ c. search needs) slice-write-out-2 (λ c κs. search needs) (λ c. search needs) (λ c κs. search needs) same-length returns)

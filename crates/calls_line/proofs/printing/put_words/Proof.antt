@@ -6,65 +6,11 @@ use Rattle.calls_line.proofs.PrintLaws.{words-other, put-add, put-remov
 use Rattle.calls_line.proofs.printing.put_words.Statement.{statement}
 use Rattle.calls_line.proofs.printing.put_words.Tie as tie
 
-enum-known-a : tie.Need-enum-known-a
-enum-known-a c = search needs
-
-slice-aggregate-put : tie.Need-slice-aggregate-put
-slice-aggregate-put c = search needs
-
-put-requires : tie.Need-put-requires
-put-requires c κs = search needs
-
-put-number-requires : tie.Need-put-number-requires
-put-number-requires c κs = search needs
-
-enum-known-a-2 : tie.Need-enum-known-a-2
-enum-known-a-2 c = search needs
-
-slice-aggregate-put-2 : tie.Need-slice-aggregate-put-2
-slice-aggregate-put-2 c = search needs
-
-put-requires-2 : tie.Need-put-requires-2
-put-requires-2 c κs = search needs
-
-put-number-requires-2 : tie.Need-put-number-requires-2
-put-number-requires-2 c κs = search needs
-
-slice-write-out : tie.Need-slice-write-out
-slice-write-out c = search needs
-
-add-put-number : tie.Need-add-put-number
-add-put-number c = search needs
-
 put-number-requires-3 : tie.Need-put-number-requires-3
 put-number-requires-3 c κs = simp length-set (omega (arith, c .before .before .before .before .before .before .before .before .before .before .before .before .before .before .pre, c .before .before .before .put-number2 .kept .0, c .before .before .before .before .before .before .before .put2 .kept .0, c .before .before .before .before .before .before .before .put2 .ensures .ends, c .before .before .before .put-number2 .ensures .1))
 
-enum-told : tie.Need-enum-told
-enum-told c = search needs
-
-slice-aggregate-put-3 : tie.Need-slice-aggregate-put-3
-slice-aggregate-put-3 c = search needs
-
-put-requires-3 : tie.Need-put-requires-3
-put-requires-3 c κs = search needs
-
-enum-known-a-3 : tie.Need-enum-known-a-3
-enum-known-a-3 c = search needs
-
-slice-write-out-2 : tie.Need-slice-write-out-2
-slice-write-out-2 c = search needs
-
-add-put-number-2 : tie.Need-add-put-number-2
-add-put-number-2 c = search needs
-
-cast-put-number : tie.Need-cast-put-number
-cast-put-number c = search needs
-
 put-number-requires-4 : tie.Need-put-number-requires-4
 put-number-requires-4 c κs = simp length-set (omega (arith, c .before .before .before .before .before .pre))
-
-same-length : tie.Need-same-length
-same-length c = search needs
 
 returns : tie.Need-returns
 returns c = put-add (c .before .before .before .before .before .before .before .before .before .before .a .given .0 .0) (c .before .before .before .before .before .before .before .before .before .before .a .given .1) (c .before .before .before .before .before .before .put .ensures) (c .before .before .put-number .ensures)
@@ -74,9 +20,6 @@ same-length-2 c = c .before .before .put-number3 .kept .0 ∙ length-set (c .bef
 
 returns-2 : tie.Need-returns-2
 returns-2 c = put-remove (c .before .before .before .before .before .before .before .before .before .before .before .before .before .before .a2 .given .0 .0) (c .before .before .before .before .before .before .before .before .before .before .before .before .before .before .a2 .given .0 .1 .0) (c .before .before .before .before .before .before .before .before .before .before .before .before .before .before .a2 .given .1) (c .before .before .before .before .before .before .before .before .before .before .put2 .ensures) (c .before .before .before .before .before .before .put-number2 .ensures) (c .before .before .put-number3 .ensures)
-
-same-length-3 : tie.Need-same-length-3
-same-length-3 c = search needs
 
 returns-3 : tie.Need-returns-3
 returns-3 c = put-nothing (c .before .before .before .before .before .enum-told .given .1) (c .before .before .put3 .ensures)
@@ -92,33 +35,7 @@ returns-5 c = put-other (c .before .before .args .a) (c .before .before .args .o
 
 pub put-words-spec : {M : Type 1} → statement M
 put-words-spec =
-    tie.close
-    (tie.spec
-    enum-known-a
-    slice-aggregate-put
-    put-requires
-    put-number-requires
-    enum-known-a-2
-    slice-aggregate-put-2
-    put-requires-2
-    put-number-requires-2
-    slice-write-out
-    add-put-number
-    put-number-requires-3
-    enum-told
-    slice-aggregate-put-3
-    put-requires-3
-    enum-known-a-3
-    slice-write-out-2
-    add-put-number-2
-    cast-put-number
-    put-number-requires-4
-    same-length
-    returns
-    same-length-2
-    returns-2
-    same-length-3
-    returns-3
-    same-length-4
-    returns-4
-    returns-5)
+    tie.close (tie.spec (λ c. search needs) (λ c. search needs) (λ c κs. search needs) (λ c κs. search needs) (λ c. search needs) (λ c. search needs)
+    (λ c κs. search needs) (λ c κs. search needs) (λ c. search needs) (λ c. search needs) put-number-requires-3 (λ c. search needs)
+    (λ c. search needs) (λ c κs. search needs) (λ c. search needs) (λ c. search needs) (λ c. search needs) (λ c. search needs) put-number-requires-4
+    (λ c. search needs) returns same-length-2 returns-2 (λ c. search needs) returns-3 same-length-4 returns-4 returns-5)

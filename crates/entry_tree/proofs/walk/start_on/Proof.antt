@@ -3,15 +3,6 @@ use Rattle.entry_tree.proofs.Walking.{start-at, start-none}
 use Rattle.entry_tree.proofs.walk.start_on.Statement.{statement}
 use Rattle.entry_tree.proofs.walk.start_on.Tie as tie
 
-first-on-requires : tie.Need-first-on-requires
-first-on-requires c κs = search needs
-
-len-requires : tie.Need-len-requires
-len-requires c κs = search needs
-
-entry-at-requires : tie.Need-entry-at-requires
-entry-at-requires c κs = search needs
-
 returns : tie.Need-returns
 returns c = start-at (c .before .before .before .before .before .args .t .now) (c .before .before .before .before .before .args .subject) _ (c .before .before .before .first-on .ensures) _ _ (c .before .before .len .ensures .0) (c .before .if1 .taken) (c .entry-at .ensures)
 
@@ -20,4 +11,4 @@ returns-2 c = start-none (c .before .before .before .before .args .t .now) (c .b
 
 pub start-on-spec : {M : Type 1} → statement M
 start-on-spec =
-    tie.close (tie.spec first-on-requires len-requires entry-at-requires returns returns-2)
+    tie.close (tie.spec (λ c κs. search needs) (λ c κs. search needs) (λ c κs. search needs) returns returns-2)

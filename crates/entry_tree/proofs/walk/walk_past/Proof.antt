@@ -5,9 +5,6 @@ use Rattle.entry_tree.proofs.Walking.{walk-past, walk-stays}
 use Rattle.entry_tree.proofs.walk.walk_past.Statement.{statement}
 use Rattle.entry_tree.proofs.walk.walk_past.Tie as tie
 
-slice-read-if1 : tie.Need-slice-read-if1
-slice-read-if1 c = search needs
-
 set-walk-requires : tie.Need-set-walk-requires
 set-walk-requires c κs = c .before .before .before .before .pre
 
@@ -22,4 +19,4 @@ returns-2 c = walk-stays (c .before .before .before .args .byte) (c .before .bef
 
 pub walk-past-spec : {M : Type 1} → statement M
 walk-past-spec =
-    tie.close (tie.spec slice-read-if1 set-walk-requires same-length returns returns-2)
+    tie.close (tie.spec (λ c. search needs) set-walk-requires same-length returns returns-2)

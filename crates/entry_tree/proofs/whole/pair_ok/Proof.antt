@@ -10,32 +10,14 @@ use Rattle.entry_tree.proofs.Turns.{no-entry, no-subject, no-order, no-
 use Rattle.entry_tree.proofs.whole.pair_ok.Statement.{statement}
 use Rattle.entry_tree.proofs.whole.pair_ok.Tie as tie
 
-entry-at-requires : tie.Need-entry-at-requires
-entry-at-requires c κs = search needs
-
-cast-e : tie.Need-cast-e
-cast-e c = search needs
-
 returns : tie.Need-returns
 returns c = let a = c .before .before .before .before .args in sym (no-entry (a .most) (a .same) (a .low) (a .high) (a .from) (entryAt (a .t .now) (a .i)) (subjectAt (a .t .now) (a .i)) (markOf (a .seen .now) (entryAt (a .t .now) (a .i))) (omega (arith, c .before .entry-at .ensures, c .if1 .taken)))
-
-subject-at-requires : tie.Need-subject-at-requires
-subject-at-requires c κs = search needs
 
 returns-2 : tie.Need-returns-2
 returns-2 c = let a = c .before .before .before .before .before .before .args in sym (no-subject (a .most) (a .same) (a .low) (a .high) (a .from) (entryAt (a .t .now) (a .i)) (subjectAt (a .t .now) (a .i)) (markOf (a .seen .now) (entryAt (a .t .now) (a .i))) (omega (arith, c .before .before .before .entry-at .ensures, c .before .before .if1 .left)) (omega (arith, c .before .subject-at .ensures, c .if2 .taken)))
 
-add-if3 : tie.Need-add-if3
-add-if3 c = search needs
-
 returns-3 : tie.Need-returns-3
 returns-3 c = let a = c .before .before .before .before .before .before .before .args in sym (no-order (a .most) (a .same) (a .low) (a .high) (a .from) (entryAt (a .t .now) (a .i)) (subjectAt (a .t .now) (a .i)) (markOf (a .seen .now) (entryAt (a .t .now) (a .i))) (omega (arith, c .before .before .before .before .entry-at .ensures, c .before .before .before .if1 .left)) (omega (arith, c .before .before .subject-at .ensures, c .before .if2 .left)) (omega (arith, c .before .before .subject-at .ensures, c .if3 .taken)))
-
-add-mark : tie.Need-add-mark
-add-mark c = search needs
-
-shared-slice-read-mark : tie.Need-shared-slice-read-mark
-shared-slice-read-mark c = search needs
 
 returns-4 : tie.Need-returns-4
 returns-4 c = let a = c .before .before .before .before .before .before .before .before .before .args in let m = ap (λ (z : ℕ). getD (a .seen .now) (2 + z) 0) (c .before .before .before .before .before .before .entry-at .ensures) in sym (no-least (a .most) (a .same) (a .low) (a .high) (a .from) (entryAt (a .t .now) (a .i)) (subjectAt (a .t .now) (a .i)) (markOf (a .seen .now) (entryAt (a .t .now) (a .i))) (omega (arith, c .before .before .before .before .before .before .entry-at .ensures, c .before .before .before .before .before .if1 .left)) (omega (arith, c .before .before .before .before .subject-at .ensures, c .before .before .before .if2 .left)) (omega (arith, c .before .before .before .before .subject-at .ensures, c .before .before .if3 .left)) (omega (arith, m, c .if4 .taken)))
@@ -51,18 +33,5 @@ returns-7 c = let a = c .before .before .before .before .before .before .before 
 
 pub pair-ok-spec : {M : Type 1} → statement M
 pair-ok-spec =
-    tie.close
-    (tie.spec
-    entry-at-requires
-    cast-e
-    returns
-    subject-at-requires
-    returns-2
-    add-if3
-    returns-3
-    add-mark
-    shared-slice-read-mark
-    returns-4
-    returns-5
-    returns-6
-    returns-7)
+    tie.close (tie.spec (λ c κs. search needs) (λ c. search needs) returns (λ c κs. search needs) returns-2 (λ c. search needs) returns-3
+    (λ c. search needs) (λ c. search needs) returns-4 returns-5 returns-6 returns-7)

@@ -7,14 +7,9 @@ use Rattle.entry_tree.proofs.whole.pointed.Tie as tie
 returns : tie.Need-returns
 returns c = sym (walk-none _ _ (c .if1 .taken))
 
-add-result : tie.Need-add-result
-add-result c = search needs
-
-shared-slice-read-result : tie.Need-shared-slice-read-result
-shared-slice-read-result c = search needs
-
 returns-2 : tie.Need-returns-2
 returns-2 c = sym (walk-some _ _ (c .before .if1 .left))
 
 pub pointed-spec : {M : Type 1} → statement M
-pointed-spec = tie.close (tie.spec returns add-result shared-slice-read-result returns-2)
+pointed-spec =
+    tie.close (tie.spec returns (λ c. search needs) (λ c. search needs) returns-2)

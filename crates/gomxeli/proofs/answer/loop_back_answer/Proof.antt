@@ -5,42 +5,6 @@ use Rattle.gomxeli.proofs.Laws.{as-number}
 use Rattle.gomxeli.proofs.answer.loop_back_answer.Statement.{statement}
 use Rattle.gomxeli.proofs.answer.loop_back_answer.Tie as tie
 
-enum-known-a : tie.Need-enum-known-a
-enum-known-a c = search needs
-
-pack-requires : tie.Need-pack-requires
-pack-requires c κs = search needs
-
-enum-told : tie.Need-enum-told
-enum-told c = search needs
-
-pack-requires-2 : tie.Need-pack-requires-2
-pack-requires-2 c κs = search needs
-
-enum-known-a-2 : tie.Need-enum-known-a-2
-enum-known-a-2 c = search needs
-
-holds-requires : tie.Need-holds-requires
-holds-requires c κs = search needs
-
-enum-known-a-3 : tie.Need-enum-known-a-3
-enum-known-a-3 c = search needs
-
-cast-pack : tie.Need-cast-pack
-cast-pack c = search needs
-
-cast-pack-2 : tie.Need-cast-pack-2
-cast-pack-2 c = search needs
-
-pack-requires-3 : tie.Need-pack-requires-3
-pack-requires-3 c κs = search needs
-
-enum-told-2 : tie.Need-enum-told-2
-enum-told-2 c = search needs
-
-pack-requires-4 : tie.Need-pack-requires-4
-pack-requires-4 c κs = search needs
-
 returns : tie.Need-returns
 returns c = c .pack .ensures ∙ sym (ap loopBackAnswer (c .before .before .a .given .1))
 
@@ -58,22 +22,6 @@ returns-5 c = c .pack4 .ensures ∙ sym (ap loopBackAnswer (c .before .enum-told
 
 pub loop-back-answer-spec : {M : Type 1} → statement M
 loop-back-answer-spec =
-    tie.close
-    (tie.spec
-    enum-known-a
-    pack-requires
-    enum-told
-    pack-requires-2
-    enum-known-a-2
-    holds-requires
-    enum-known-a-3
-    cast-pack
-    cast-pack-2
-    pack-requires-3
-    enum-told-2
-    pack-requires-4
-    returns
-    returns-2
-    returns-3
-    returns-4
-    returns-5)
+    tie.close (tie.spec (λ c. search needs) (λ c κs. search needs) (λ c. search needs) (λ c κs. search needs) (λ c. search needs)
+    (λ c κs. search needs) (λ c. search needs) (λ c. search needs) (λ c. search needs) (λ c κs. search needs) (λ c. search needs)
+    (λ c κs. search needs) returns returns-2 returns-3 returns-4 returns-5)

@@ -4,33 +4,6 @@ use Rattle.gomxeli.specs.Answers.{requestAnswer}
 use Rattle.gomxeli.proofs.answer.request_answer.Statement.{statement}
 use Rattle.gomxeli.proofs.answer.request_answer.Tie as tie
 
-enum-known-a : tie.Need-enum-known-a
-enum-known-a c = search needs
-
-pack-requires : tie.Need-pack-requires
-pack-requires c κs = search needs
-
-enum-told : tie.Need-enum-told
-enum-told c = search needs
-
-pack-requires-2 : tie.Need-pack-requires-2
-pack-requires-2 c κs = search needs
-
-enum-known-a-2 : tie.Need-enum-known-a-2
-enum-known-a-2 c = search needs
-
-cast-pack : tie.Need-cast-pack
-cast-pack c = search needs
-
-pack-requires-3 : tie.Need-pack-requires-3
-pack-requires-3 c κs = search needs
-
-enum-told-2 : tie.Need-enum-told-2
-enum-told-2 c = search needs
-
-pack-requires-4 : tie.Need-pack-requires-4
-pack-requires-4 c κs = search needs
-
 returns : tie.Need-returns
 returns c = c .pack .ensures ∙ sym (ap requestAnswer (c .before .before .a .given .1))
 
@@ -45,18 +18,5 @@ returns-4 c = c .pack4 .ensures ∙ sym (ap requestAnswer (c .before .enum-told2
 
 pub request-answer-spec : {M : Type 1} → statement M
 request-answer-spec =
-    tie.close
-    (tie.spec
-    enum-known-a
-    pack-requires
-    enum-told
-    pack-requires-2
-    enum-known-a-2
-    cast-pack
-    pack-requires-3
-    enum-told-2
-    pack-requires-4
-    returns
-    returns-2
-    returns-3
-    returns-4)
+    tie.close (tie.spec (λ c. search needs) (λ c κs. search needs) (λ c. search needs) (λ c κs. search needs) (λ c. search needs) (λ c. search needs)
+    (λ c κs. search needs) (λ c. search needs) (λ c κs. search needs) returns returns-2 returns-3 returns-4)

@@ -4,18 +4,9 @@ use Rattle.gomxeli.specs.Answers.{loopBackAnswer}
 use Rattle.gomxeli.proofs.lb.gomxeli_lb_open.Statement.{statement}
 use Rattle.gomxeli.proofs.lb.gomxeli_lb_open.Tie as tie
 
-open-requires : tie.Need-open-requires
-open-requires c κs = search needs
-
-loop-back-answer-requires : tie.Need-loop-back-answer-requires
-loop-back-answer-requires c κs = search needs
-
-same-length : tie.Need-same-length
-same-length c = search needs
-
 returns : tie.Need-returns
 returns c = (c .loop-back-answer .ensures ∙ ap loopBackAnswer (c .before .before .before .«open» .ensures .0), c .before .before .before .«open» .ensures .1)
 
 pub gomxeli-lb-open-spec : {M : Type 1} → statement M
 gomxeli-lb-open-spec =
-    tie.close (tie.spec open-requires loop-back-answer-requires same-length returns)
+    tie.close (tie.spec (λ c κs. search needs) (λ c κs. search needs) (λ c. search needs) returns)

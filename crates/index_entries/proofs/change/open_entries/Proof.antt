@@ -10,33 +10,9 @@ use Rattle.index_entries.proofs.Fresh.{opened-laid}
 use Rattle.index_entries.proofs.change.open_entries.Statement.{statement}
 use Rattle.index_entries.proofs.change.open_entries.Tie as tie
 
-fill-requires : tie.Need-fill-requires
-fill-requires c κs = search needs
-
-set-word-requires : tie.Need-set-word-requires
-set-word-requires c κs = search needs
-
-mul-e : tie.Need-mul-e
-mul-e c = search needs
-
-add-e : tie.Need-add-e
-add-e c = search needs
-
-sub-open-lists : tie.Need-sub-open-lists
-sub-open-lists c = search needs
-
-part-open-lists-start : tie.Need-part-open-lists-start
-part-open-lists-start c = search needs
-
-part-open-lists-end : tie.Need-part-open-lists-end
-part-open-lists-end c = search needs
-
 open-lists-requires : tie.Need-open-lists-requires
 open-lists-requires c κs = let a = keys-allowed (c .before .before .before .before .before .before .before .before .before .before .args .k-max) (c .before .before .before .before .before .before .before .before .before .before .args .n) (c .before .before .before .before .before .before .before .before .before .before .pre .0) in
     (a .1, simp (length-take, length-drop) (omega (arith, c .before .before .before .before .before .before .before .before .before .before .pre .1, c .before .before .before .before .before .before .before .fill .kept .0, c .before .before .before .set-word .kept .0)))
-
-same-length : tie.Need-same-length
-same-length c = search needs
 
 returns : tie.Need-returns
 returns c = let k = c .before .before .before .before .before .before .before .before .before .before .before .before .before .args .k-max in
@@ -48,15 +24,5 @@ returns c = let k = c .before .before .before .before .before .before .before .b
 
 pub open-entries-spec : {M : Type 1} → statement M
 open-entries-spec =
-    tie.close
-    (tie.spec
-    fill-requires
-    set-word-requires
-    mul-e
-    add-e
-    sub-open-lists
-    part-open-lists-start
-    part-open-lists-end
-    open-lists-requires
-    same-length
-    returns)
+    tie.close (tie.spec (λ c κs. search needs) (λ c κs. search needs) (λ c. search needs) (λ c. search needs) (λ c. search needs) (λ c. search needs)
+    (λ c. search needs) open-lists-requires (λ c. search needs) returns)

@@ -9,18 +9,6 @@ use Prim.Native.Nat.{_/_}
 use Rattle.index_entries.proofs.change.set_long.Statement.{statement}
 use Rattle.index_entries.proofs.change.set_long.Tie as tie
 
-cast-set-word : tie.Need-cast-set-word
-cast-set-word c = search needs
-
-set-word-requires : tie.Need-set-word-requires
-set-word-requires c κs = search needs
-
-add-set-word : tie.Need-add-set-word
-add-set-word c = search needs
-
-cast-set-word-2 : tie.Need-cast-set-word-2
-cast-set-word-2 c = search needs
-
 set-word-requires-2 : tie.Need-set-word-requires-2
 set-word-requires-2 c κs = omega (arith, c .before .before .before .set-word .kept .0)
 
@@ -32,12 +20,4 @@ returns c = c .before .before .set-word2 .ensures ∙ ap (λ (l : List ℕ). set
 
 pub set-long-spec : {M : Type 1} → statement M
 set-long-spec =
-    tie.close
-    (tie.spec
-    cast-set-word
-    set-word-requires
-    add-set-word
-    cast-set-word-2
-    set-word-requires-2
-    same-length
-    returns)
+    tie.close (tie.spec (λ c. search needs) (λ c κs. search needs) (λ c. search needs) (λ c. search needs) set-word-requires-2 same-length returns)

@@ -31,14 +31,8 @@ mul-set-word-2 c = let f = facts-of (c .before .before .before .args .s .now) (c
 add-set-word-2 : tie.Need-add-set-word-2
 add-set-word-2 c = let f = facts-of (c .before .before .before .args .s .now) (c .before .before .before .pre .0) in omega (arith, f .len, f .few, f .low)
 
-add-set-word-3 : tie.Need-add-set-word-3
-add-set-word-3 c = search needs
-
 set-word-requires : tie.Need-set-word-requires
 set-word-requires c κs = let f = facts-of (c .before .before .before .args .s .now) (c .before .before .before .pre .0) in omega (arith, f .len, f .few, f .low)
-
-same-length : tie.Need-same-length
-same-length c = search needs
 
 returns : tie.Need-returns
 returns c = let s = c .before .before .before .before .before .before .args .s .now in
@@ -50,15 +44,5 @@ returns c = let s = c .before .before .before .before .before .before .args .s .
 
 pub spend-spec : {M : Type 1} → statement M
 spend-spec =
-    tie.close
-    (tie.spec
-    slice-read-n
-    cast-n
-    mul-set-word
-    add-set-word
-    mul-set-word-2
-    add-set-word-2
-    add-set-word-3
-    set-word-requires
-    same-length
-    returns)
+    tie.close (tie.spec slice-read-n cast-n mul-set-word add-set-word mul-set-word-2 add-set-word-2 (λ c. search needs) set-word-requires
+    (λ c. search needs) returns)

@@ -29,22 +29,9 @@ add-set-long-2 c = let f = facts-of (c .before .before .before .args .s .now) (c
 set-long-requires : tie.Need-set-long-requires
 set-long-requires c κs = let f = facts-of (c .before .before .before .args .s .now) (c .before .before .before .pre .0) in omega (arith, f .len, f .few, f .low)
 
-same-length : tie.Need-same-length
-same-length c = search needs
-
 returns : tie.Need-returns
 returns c = c .before .before .set-long .ensures ∙ value-laid (c .before .before .before .before .before .before .args .s .now) (bytes-of (c .before .before .before .before .before .before .args .s .now) (c .before .before .before .before .before .slice-known .given)) (c .before .before .before .before .before .before .pre .0) (c .before .before .before .before .before .before .args .i) (c .before .before .before .before .before .before .pre .1 .0) (c .before .before .before .before .before .before .pre .1 .1) (c .before .before .before .before .before .before .args .v) (omega arith)
 
 pub store-value-spec : {M : Type 1} → statement M
 store-value-spec =
-    tie.close
-    (tie.spec
-    slice-read-n
-    cast-n
-    mul-set-long
-    add-set-long
-    mul-set-long-2
-    add-set-long-2
-    set-long-requires
-    same-length
-    returns)
+    tie.close (tie.spec slice-read-n cast-n mul-set-long add-set-long mul-set-long-2 add-set-long-2 set-long-requires (λ c. search needs) returns)

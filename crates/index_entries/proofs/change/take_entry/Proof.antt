@@ -19,9 +19,6 @@ slice-read-n c = let f = facts-of (c .before .before .args .s .now) (c .before .
 cast-n : tie.Need-cast-n
 cast-n c = byte-fits (c .slice-known2 .given _)
 
-list-remove-requires : tie.Need-list-remove-requires
-list-remove-requires c κs = search needs
-
 mul-set-word : tie.Need-mul-set-word
 mul-set-word c = let f = facts-of (c .before .before .before .before .before .before .before .args .s .now) (c .before .before .before .before .before .before .before .pre .0) in omega (arith, f .len, f .few, f .low)
 
@@ -79,25 +76,5 @@ returns c = let s = c .before .before .before .before .before .before .before .b
 
 pub take-entry-spec : {M : Type 1} → statement M
 take-entry-spec =
-    tie.close
-    (tie.spec
-    slice-read-n
-    cast-n
-    list-remove-requires
-    mul-set-word
-    add-set-word
-    mul-set-word-2
-    add-set-word-2
-    set-word-requires
-    mul-set-long
-    add-set-long
-    mul-set-long-2
-    add-set-long-2
-    set-long-requires
-    cast-s
-    mul-s
-    add-s
-    add-s-2
-    slice-write-s
-    same-length
-    returns)
+    tie.close (tie.spec slice-read-n cast-n (λ c κs. search needs) mul-set-word add-set-word mul-set-word-2 add-set-word-2 set-word-requires
+    mul-set-long add-set-long mul-set-long-2 add-set-long-2 set-long-requires cast-s mul-s add-s add-s-2 slice-write-s same-length returns)

@@ -32,17 +32,8 @@ add-word-2 c = let f = facts-of (c .before .before .args .s .now) (c .before .be
 word-requires : tie.Need-word-requires
 word-requires c κs = let f = facts-of (c .before .before .args .s .now) (c .before .before .pre .0) in omega (arith, f .len, f .few, f .low)
 
-cast-t12 : tie.Need-cast-t12
-cast-t12 c = search needs
-
-value-at-requires : tie.Need-value-at-requires
-value-at-requires c κs = search needs
-
 returns : tie.Need-returns
 returns c = held-value (c .before .before .before .before .before .args .s .now) (c .before .before .before .before .before .args .i) (c .before .before .before .before .before .pre .1) (c .before .before .word .ensures .0) (c .value-at .ensures) (c .before .if1 .taken)
-
-cast-t15 : tie.Need-cast-t15
-cast-t15 c = search needs
 
 returns-2 : tie.Need-returns-2
 returns-2 c = held-spent (c .before .before .before .before .before .args .s .now) (c .before .before .before .before .before .args .i) (c .before .before .before .before .before .pre .1) (c .before .before .word .ensures .0) (c .before .if1 .left) (c .if2 .taken)
@@ -52,18 +43,5 @@ returns-3 c = held-free (c .before .before .before .before .before .args .s .now
 
 pub held-at-spec : {M : Type 1} → statement M
 held-at-spec =
-    tie.close
-    (tie.spec
-    shared-slice-read-n
-    cast-n
-    mul-word
-    add-word
-    mul-word-2
-    add-word-2
-    word-requires
-    cast-t12
-    value-at-requires
-    returns
-    cast-t15
-    returns-2
-    returns-3)
+    tie.close (tie.spec shared-slice-read-n cast-n mul-word add-word mul-word-2 add-word-2 word-requires (λ c. search needs) (λ c κs. search needs)
+    returns (λ c. search needs) returns-2 returns-3)

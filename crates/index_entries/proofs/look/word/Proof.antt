@@ -6,17 +6,8 @@ use Rattle.state.proofs.Tests.{byte-fits}
 use Rattle.index_entries.proofs.look.word.Statement.{statement}
 use Rattle.index_entries.proofs.look.word.Tie as tie
 
-shared-slice-read-result : tie.Need-shared-slice-read-result
-shared-slice-read-result c = search needs
-
 cast-result : tie.Need-cast-result
 cast-result c = byte-fits (c .shared-slice-known .given _)
-
-add-result : tie.Need-add-result
-add-result c = search needs
-
-shared-slice-read-result-2 : tie.Need-shared-slice-read-result-2
-shared-slice-read-result-2 c = search needs
 
 cast-result-2 : tie.Need-cast-result-2
 cast-result-2 c = byte-fits (c .shared-slice-known2 .given _)
@@ -32,13 +23,4 @@ returns c = let a = c .before .shared-slice-known .given (c .before .before .arg
 
 pub word-spec : {M : Type 1} → statement M
 word-spec =
-    tie.close
-    (tie.spec
-    shared-slice-read-result
-    cast-result
-    add-result
-    shared-slice-read-result-2
-    cast-result-2
-    mul-result
-    add-result-2
-    returns)
+    tie.close (tie.spec (λ c. search needs) cast-result (λ c. search needs) (λ c. search needs) cast-result-2 mul-result add-result-2 returns)

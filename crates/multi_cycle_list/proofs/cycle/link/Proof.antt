@@ -5,35 +5,13 @@ use lib.ListN.{length-set}
 use Rattle.multi_cycle_list.proofs.cycle.link.Statement.{statement}
 use Rattle.multi_cycle_list.proofs.cycle.link.Tie as tie
 
-cast-s : tie.Need-cast-s
-cast-s c = search needs
-
-mul-s : tie.Need-mul-s
-mul-s c = search needs
-
-add-s : tie.Need-add-s
-add-s c = search needs
-
-slice-write-s : tie.Need-slice-write-s
-slice-write-s c = search needs
-
-cast-s-2 : tie.Need-cast-s-2
-cast-s-2 c = search needs
-
-mul-s-2 : tie.Need-mul-s-2
-mul-s-2 c = search needs
-
-add-s-2 : tie.Need-add-s-2
-add-s-2 c = search needs
-
 slice-write-s-2 : tie.Need-slice-write-s-2
 slice-write-s-2 c = simp length-set (omega arith)
-
-same-length : tie.Need-same-length
-same-length c = search needs
 
 returns : tie.Need-returns
 returns c = refl
 
 pub link-spec : {M : Type 1} → statement M
-link-spec = tie.close (tie.spec cast-s mul-s add-s slice-write-s cast-s-2 mul-s-2 add-s-2 slice-write-s-2 same-length returns)
+link-spec =
+    tie.close (tie.spec (λ c. search needs) (λ c. search needs) (λ c. search needs) (λ c. search needs) (λ c. search needs) (λ c. search needs)
+    (λ c. search needs) slice-write-s-2 (λ c. search needs) returns)

@@ -3,16 +3,11 @@ use Rattle.multi_cycle_list.proofs.Changes.{linked-is}
 use Rattle.multi_cycle_list.proofs.inner.inner_is_linked.Statement.{statement}
 use Rattle.multi_cycle_list.proofs.inner.inner_is_linked.Tie as tie
 
-node-requires : tie.Need-node-requires
-node-requires c κs = search needs
-
-link-at-requires : tie.Need-link-at-requires
-link-at-requires c κs = search needs
-
 returns : tie.Need-returns
 returns c =
     let a = c .before .before .before in
     rw (c .link-at .ensures, c .before .node .ensures .0) (linked-is (a .args .s .now) (a .args .entry) (a .pre .0) (a .pre .1))
 
 pub inner-is-linked-spec : {M : Type 1} → statement M
-inner-is-linked-spec = tie.close (tie.spec node-requires link-at-requires returns)
+inner-is-linked-spec =
+    tie.close (tie.spec (λ c κs. search needs) (λ c κs. search needs) returns)

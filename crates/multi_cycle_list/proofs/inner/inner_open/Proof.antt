@@ -11,9 +11,6 @@ use Rattle.multi_cycle_list.proofs.inner.inner_open.Tie as tie
 cast-s : tie.Need-cast-s
 cast-s c = let a = allowed-of (c .before .args .classes) (c .before .args .entries) (c .before .pre .0) in omega arith
 
-slice-write-s : tie.Need-slice-write-s
-slice-write-s c = search needs
-
 cast-s-2 : tie.Need-cast-s-2
 cast-s-2 c = let a = allowed-of (c .before .args .classes) (c .before .args .entries) (c .before .pre .0) in omega arith
 
@@ -34,13 +31,4 @@ returns c = c .before .before .alone .ensures ∙ fresh (c .before .before .befo
 
 pub inner-open-spec : {M : Type 1} → statement M
 inner-open-spec =
-    tie.close
-    (tie.spec
-    cast-s
-    slice-write-s
-    cast-s-2
-    slice-write-s-2
-    add-alone
-    alone-requires
-    same-length
-    returns)
+    tie.close (tie.spec cast-s (λ c. search needs) cast-s-2 slice-write-s-2 add-alone alone-requires same-length returns)

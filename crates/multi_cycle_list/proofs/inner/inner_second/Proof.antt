@@ -10,9 +10,6 @@ use Rattle.multi_cycle_list.proofs.inner.inner_second.Tie as tie
 node-requires : tie.Need-node-requires
 node-requires c κs = let a = c .before in (a .pre .0, front-in (a .args .s .now) (a .args .class) (a .pre .0) (a .pre .1 .0) (a .args .front) (a .pre .1 .1))
 
-entry-at-requires : tie.Need-entry-at-requires
-entry-at-requires c κs = search needs
-
 returns : tie.Need-returns
 returns c =
     let a = c .before .before .before in
@@ -22,4 +19,5 @@ returns c =
     ∙ second-is s (a .args .class) (a .pre .0) (a .pre .1 .0) (a .args .front) (a .pre .1 .1)
 
 pub inner-second-spec : {M : Type 1} → statement M
-inner-second-spec = tie.close (tie.spec node-requires entry-at-requires returns)
+inner-second-spec =
+    tie.close (tie.spec node-requires (λ c κs. search needs) returns)

@@ -17,14 +17,8 @@ returns c =
     let s = c .before .args .s .now in
     simp (ne-eqb (length s) (2 + 2 * (classes s + entries s)) (λ e. omega arith), and-false)
 
-shared-slice-read-c : tie.Need-shared-slice-read-c
-shared-slice-read-c c = search needs
-
 cast-c : tie.Need-cast-c
 cast-c c = byte-fits (c .shared-slice-known .given _)
-
-shared-slice-read-e : tie.Need-shared-slice-read-e
-shared-slice-read-e c = search needs
 
 cast-e : tie.Need-cast-e
 cast-e c = byte-fits (c .shared-slice-known2 .given _)
@@ -41,31 +35,10 @@ returns-4 : tie.Need-returns-4
 unfolding sizesB
 returns-4 c = simp (lt-leb _ _ (c .if4 .taken), and-false)
 
-add-result : tie.Need-add-result
-add-result c = search needs
-
-mul-result : tie.Need-mul-result
-mul-result c = search needs
-
-add-result-2 : tie.Need-add-result-2
-add-result-2 c = search needs
-
 returns-5 : tie.Need-returns-5
 returns-5 c = sym (sizes-last (c .before .before .before .before .before .before .args .s .now) (c .before .before .if2 .left) (c .before .if3 .left) (c .if4 .left))
 
 pub sizes-spec : {M : Type 1} → statement M
 sizes-spec =
-    tie.close
-    (tie.spec
-    returns
-    shared-slice-read-c
-    cast-c
-    shared-slice-read-e
-    cast-e
-    returns-2
-    returns-3
-    returns-4
-    add-result
-    mul-result
-    add-result-2
-    returns-5)
+    tie.close (tie.spec returns (λ c. search needs) cast-c (λ c. search needs) cast-e returns-2 returns-3 returns-4 (λ c. search needs)
+    (λ c. search needs) (λ c. search needs) returns-5)

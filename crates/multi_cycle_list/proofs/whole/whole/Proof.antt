@@ -4,9 +4,6 @@ use Rattle.multi_cycle_list.specs.Inner.{unmarked}
 use Rattle.multi_cycle_list.proofs.whole.whole.Statement.{statement}
 use Rattle.multi_cycle_list.proofs.whole.whole.Tie as tie
 
-slice-aggregate-whole-marked : tie.Need-slice-aggregate-whole-marked
-slice-aggregate-whole-marked c = search needs
-
 whole-marked-requires : tie.Need-whole-marked-requires
 unfolding unmarked
 whole-marked-requires c κs = refl
@@ -15,4 +12,5 @@ returns : tie.Need-returns
 returns c = c .before .whole-marked .ensures .test
 
 pub whole-spec : {M : Type 1} → statement M
-whole-spec = tie.close (tie.spec slice-aggregate-whole-marked whole-marked-requires returns)
+whole-spec =
+    tie.close (tie.spec (λ c. search needs) whole-marked-requires returns)

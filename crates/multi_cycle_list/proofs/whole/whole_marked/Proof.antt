@@ -10,9 +10,6 @@ use Rattle.multi_cycle_list.proofs.Sound.{not-whole-marked, whole-no-cy
 use Rattle.multi_cycle_list.proofs.whole.whole_marked.Statement.{statement}
 use Rattle.multi_cycle_list.proofs.whole.whole_marked.Tie as tie
 
-sizes-requires : tie.Need-sizes-requires
-sizes-requires c κs = search needs
-
 returns : tie.Need-returns
 returns c = not-whole-marked _ _ (whole-no-sizes _ (sym (c .before .sizes .ensures) ∙ c .if1 .left))
 
@@ -52,18 +49,5 @@ returns-3 c = whole-marked (c .before .before .before .before .before .before .b
 
 pub whole-marked-spec : {M : Type 1} → statement M
 whole-marked-spec =
-    tie.close
-    (tie.spec
-    sizes-requires
-    returns
-    shared-slice-read-c
-    cast-c
-    shared-slice-read-e
-    cast-e
-    add-n
-    cycles-requires
-    same-length
-    returns-2
-    all-placed-requires
-    same-length-2
-    returns-3)
+    tie.close (tie.spec (λ c κs. search needs) returns shared-slice-read-c cast-c shared-slice-read-e cast-e add-n cycles-requires same-length
+    returns-2 all-placed-requires same-length-2 returns-3)

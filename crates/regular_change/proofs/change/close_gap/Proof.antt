@@ -19,32 +19,11 @@ use Rattle.regular_change.proofs.Acts.{Queue, gaps-are, whole-queue, en
 use Rattle.regular_change.proofs.change.close_gap.Statement.{statement}
 use Rattle.regular_change.proofs.change.close_gap.Tie as tie
 
-enum-told : tie.Need-enum-told
-enum-told c = search needs
-
-enum-told-2 : tie.Need-enum-told-2
-enum-told-2 c = search needs
-
-sub-inner-remove : tie.Need-sub-inner-remove
-sub-inner-remove c = search needs
-
-part-inner-remove-start : tie.Need-part-inner-remove-start
-part-inner-remove-start c = search needs
-
 part-inner-remove-end : tie.Need-part-inner-remove-end
 part-inner-remove-end c = omega (arith, known (c .before .before .before .args .s .now) (c .before .before .before .pre .0) .long)
 
 inner-remove-requires : tie.Need-inner-remove-requires
 inner-remove-requires c κs = (whole-queue (c .before .before .before .before .args .s .now) (bytes-of (c .before .before .before .before .args .s .now) (c .before .before .before .slice-known .given)) (c .before .before .before .before .pre .0), omega (arith, entries-all (c .before .before .before .before .args .s .now) (bytes-of (c .before .before .before .before .args .s .now) (c .before .before .before .slice-known .given)) (c .before .before .before .before .pre .0), active-entry (c .before .before .before .before .args .s .now) (bytes-of (c .before .before .before .before .args .s .now) (c .before .before .before .slice-known .given)) (c .before .before .before .before .pre .0) (c .before .before .before .before .args .entry) (ap (λ (k : ℕ). hasEntry k (read (c .before .before .before .before .args .s .now) .active)) (c .before .before .before .before .pre .1 .1 .0) ∙ entry-active (c .before .before .before .before .args .s .now) (c .before .before .before .before .pre .0) (c .before .before .before .before .args .i) (c .before .before .before .before .pre .1 .0))))
-
-enum-known-gap : tie.Need-enum-known-gap
-enum-known-gap c = search needs
-
-sub-inner-remove-2 : tie.Need-sub-inner-remove-2
-sub-inner-remove-2 c = search needs
-
-part-inner-remove-start-2 : tie.Need-part-inner-remove-start-2
-part-inner-remove-start-2 c = search needs
 
 part-inner-remove-end-2 : tie.Need-part-inner-remove-end-2
 part-inner-remove-end-2 c = omega (arith, known (c .before .before .before .before .args .s .now) (c .before .before .before .before .pre .0) .long)
@@ -52,29 +31,11 @@ part-inner-remove-end-2 c = omega (arith, known (c .before .before .before .befo
 inner-remove-requires-2 : tie.Need-inner-remove-requires-2
 inner-remove-requires-2 c κs = (whole-queue (c .before .before .before .before .before .args .s .now) (bytes-of (c .before .before .before .before .before .args .s .now) (c .before .before .before .before .slice-known .given)) (c .before .before .before .before .before .pre .0), omega (arith, entries-all (c .before .before .before .before .before .args .s .now) (bytes-of (c .before .before .before .before .before .args .s .now) (c .before .before .before .before .slice-known .given)) (c .before .before .before .before .before .pre .0), active-entry (c .before .before .before .before .before .args .s .now) (bytes-of (c .before .before .before .before .before .args .s .now) (c .before .before .before .before .slice-known .given)) (c .before .before .before .before .before .pre .0) (c .before .before .before .before .before .args .entry) (ap (λ (k : ℕ). hasEntry k (read (c .before .before .before .before .before .args .s .now) .active)) (c .before .before .before .before .before .pre .1 .1 .0) ∙ entry-active (c .before .before .before .before .before .args .s .now) (c .before .before .before .before .before .pre .0) (c .before .before .before .before .before .args .i) (c .before .before .before .before .before .pre .1 .0))))
 
-sub-inner-move-back : tie.Need-sub-inner-move-back
-sub-inner-move-back c = search needs
-
-part-inner-move-back-start : tie.Need-part-inner-move-back-start
-part-inner-move-back-start c = search needs
-
 part-inner-move-back-end : tie.Need-part-inner-move-back-end
 part-inner-move-back-end c = omega (arith, known (c .before .before .before .before .before .before .before .before .args .s .now) (c .before .before .before .before .before .before .before .before .pre .0) .long, same-len-mid 770 262 (c .before .before .before .before .before .before .before .before .args .s .now) (c .before .before .inner-remove2 .last .0) (c .before .before .inner-remove2 .kept .0))
 
-cast-inner-move-back : tie.Need-cast-inner-move-back
-cast-inner-move-back c = search needs
-
 inner-move-back-requires : tie.Need-inner-move-back-requires
 inner-move-back-requires c κs = let w = subst (λ (z : List ℕ). Queue (queuePart (putMid 770 262 (c .before .before .before .before .before .before .before .before .before .args .s .now) z))) (sym (c .before .before .before .inner-remove2 .ensures)) (queue-ready (c .before .before .before .before .before .before .before .before .before .args .s .now) (bytes-of (c .before .before .before .before .before .before .before .before .before .args .s .now) (c .before .before .before .before .before .before .before .before .slice-known .given)) (c .before .before .before .before .before .before .before .before .before .pre .0) (c .before .before .before .before .before .before .before .before .before .args .entry) (ap (λ (k : ℕ). hasEntry k (read (c .before .before .before .before .before .before .before .before .before .args .s .now) .active)) (c .before .before .before .before .before .before .before .before .before .pre .1 .1 .0) ∙ entry-active (c .before .before .before .before .before .before .before .before .before .args .s .now) (c .before .before .before .before .before .before .before .before .before .pre .0) (c .before .before .before .before .before .before .before .before .before .args .i) (c .before .before .before .before .before .before .before .before .before .pre .1 .0))) in (w .whole, (omega (arith, w .classes), omega (arith, w .entries, next-small (c .before .before .before .before .before .before .before .before .before .args .s .now) (bytes-of (c .before .before .before .before .before .before .before .before .before .args .s .now) (c .before .before .before .before .before .before .before .before .slice-known .given)) (c .before .before .before .before .before .before .before .before .before .pre .0) (c .before .before .before .before .before .before .before .before .before .args .entry) (ap (λ (k : ℕ). hasEntry k (read (c .before .before .before .before .before .before .before .before .before .args .s .now) .active)) (c .before .before .before .before .before .before .before .before .before .pre .1 .1 .0) ∙ entry-active (c .before .before .before .before .before .before .before .before .before .args .s .now) (c .before .before .before .before .before .before .before .before .before .pre .0) (c .before .before .before .before .before .before .before .before .before .args .i) (c .before .before .before .before .before .before .before .before .before .pre .1 .0)) _ (sym (c .before .before .before .before .before .before .gap .given .1) ∙ c .before .before .before .before .before .before .before .before .before .pre .1 .1 .1))))
-
-enum-told-3 : tie.Need-enum-told-3
-enum-told-3 c = search needs
-
-sub-inner-remove-3 : tie.Need-sub-inner-remove-3
-sub-inner-remove-3 c = search needs
-
-part-inner-remove-start-3 : tie.Need-part-inner-remove-start-3
-part-inner-remove-start-3 c = search needs
 
 part-inner-remove-end-3 : tie.Need-part-inner-remove-end-3
 part-inner-remove-end-3 c = omega (arith, known (c .before .before .before .args .s .now) (c .before .before .before .pre .0) .long)
@@ -108,34 +69,8 @@ returns-4 c = c .before .before .set-last-gap .ensures ∙ ap (λ (q : List ℕ)
 
 pub close-gap-spec : {M : Type 1} → statement M
 close-gap-spec =
-    tie.close
-    (tie.spec
-    enum-told
-    enum-told-2
-    sub-inner-remove
-    part-inner-remove-start
-    part-inner-remove-end
-    inner-remove-requires
-    enum-known-gap
-    sub-inner-remove-2
-    part-inner-remove-start-2
-    part-inner-remove-end-2
-    inner-remove-requires-2
-    sub-inner-move-back
-    part-inner-move-back-start
-    part-inner-move-back-end
-    cast-inner-move-back
-    inner-move-back-requires
-    enum-told-3
-    sub-inner-remove-3
-    part-inner-remove-start-3
-    part-inner-remove-end-3
-    inner-remove-requires-3
-    set-last-gap-requires
-    returns
-    same-length
-    returns-2
-    same-length-2
-    returns-3
-    same-length-3
-    returns-4)
+    tie.close (tie.spec (λ c. search needs) (λ c. search needs) (λ c. search needs) (λ c. search needs) part-inner-remove-end inner-remove-requires
+    (λ c. search needs) (λ c. search needs) (λ c. search needs) part-inner-remove-end-2 inner-remove-requires-2 (λ c. search needs)
+    (λ c. search needs) part-inner-move-back-end (λ c. search needs) inner-move-back-requires (λ c. search needs) (λ c. search needs)
+    (λ c. search needs) part-inner-remove-end-3 inner-remove-requires-3 set-last-gap-requires returns same-length returns-2 same-length-2 returns-3
+    same-length-3 returns-4)

@@ -10,12 +10,6 @@ use Rattle.regular_change.proofs.Acts.{long-active, room-active, joined
 use Rattle.regular_change.proofs.change.join.Statement.{statement}
 use Rattle.regular_change.proofs.change.join.Tie as tie
 
-sub-insert : tie.Need-sub-insert
-sub-insert c = search needs
-
-part-insert-start : tie.Need-part-insert-start
-part-insert-start c = search needs
-
 part-insert-end : tie.Need-part-insert-end
 part-insert-end c = omega (arith, known (c .before .args .s .now) (c .before .pre .0) .long)
 
@@ -30,5 +24,4 @@ returns c = let s = c .before .before .before .before .before .args .s .now in a
 
 pub join-spec : {M : Type 1} → statement M
 join-spec =
-    tie.close
-    (tie.spec sub-insert part-insert-start part-insert-end insert-requires same-length returns)
+    tie.close (tie.spec (λ c. search needs) (λ c. search needs) part-insert-end insert-requires same-length returns)

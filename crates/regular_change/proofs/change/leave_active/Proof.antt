@@ -17,12 +17,6 @@ use Rattle.regular_change.proofs.Acts.{gaps-are, more-is, long-active, 
 use Rattle.regular_change.proofs.change.leave_active.Statement.{statement}
 use Rattle.regular_change.proofs.change.leave_active.Tie as tie
 
-sub-next-on : tie.Need-sub-next-on
-sub-next-on c = search needs
-
-part-next-on-start : tie.Need-part-next-on-start
-part-next-on-start c = search needs
-
 part-next-on-end : tie.Need-part-next-on-end
 part-next-on-end c = omega (arith, known (c .before .before .args .s .now) (c .before .before .pre .0) .long)
 
@@ -38,12 +32,6 @@ walk-past-requires c κs = omega (arith, known (c .before .before .before .befor
 set-slots-requires : tie.Need-set-slots-requires
 set-slots-requires c κs = (omega (arith, known (c .before .before .before .before .before .before .before .before .before .before .before .before .before .args .s .now) (c .before .before .before .before .before .before .before .before .before .before .before .before .before .pre .0) .long, c .before .before .before .before .before .before .before .close-gap .kept .0, c .before .before .before .walk-past .kept .0), c .before .before .before .before .before .before .before .before .before .before .before .before .before .pre .1 .1 .1 .1)
 
-sub-remove : tie.Need-sub-remove
-sub-remove c = search needs
-
-part-remove-start : tie.Need-part-remove-start
-part-remove-start c = search needs
-
 part-remove-end : tie.Need-part-remove-end
 part-remove-end c = omega (arith, known (c .before .before .before .before .before .before .before .before .before .before .before .before .before .before .before .before .args .s .now) (c .before .before .before .before .before .before .before .before .before .before .before .before .before .before .before .before .pre .0) .long, c .before .before .before .before .before .before .before .before .before .before .close-gap .kept .0, c .before .before .before .before .before .before .walk-past .kept .0, c .before .before .set-slots .kept .0)
 
@@ -58,18 +46,5 @@ returns c = ap (λ (q : List ℕ). putMid 0 385 (c .before .before .before .befo
 
 pub leave-active-spec : {M : Type 1} → statement M
 leave-active-spec =
-    tie.close
-    (tie.spec
-    sub-next-on
-    part-next-on-start
-    part-next-on-end
-    next-on-requires
-    close-gap-requires
-    walk-past-requires
-    set-slots-requires
-    sub-remove
-    part-remove-start
-    part-remove-end
-    remove-requires
-    same-length
-    returns)
+    tie.close (tie.spec (λ c. search needs) (λ c. search needs) part-next-on-end next-on-requires close-gap-requires walk-past-requires
+    set-slots-requires (λ c. search needs) (λ c. search needs) part-remove-end remove-requires same-length returns)

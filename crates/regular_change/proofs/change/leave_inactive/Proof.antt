@@ -15,35 +15,17 @@ use Rattle.regular_change.proofs.Acts.{long-inactive, few-inactive, pla
 use Rattle.regular_change.proofs.change.leave_inactive.Statement.{statement}
 use Rattle.regular_change.proofs.change.leave_inactive.Tie as tie
 
-sub-position : tie.Need-sub-position
-sub-position c = search needs
-
-part-position-start : tie.Need-part-position-start
-part-position-start c = search needs
-
 part-position-end : tie.Need-part-position-end
 part-position-end c = omega (arith, known (c .before .before .args .s .now) (c .before .before .pre .0) .long)
 
 position-requires : tie.Need-position-requires
 position-requires c κs = let s = c .before .before .before .args .s .now in let y = bytes-of s (c .before .before .slice-known .given) in (long-inactive s y (c .before .before .before .pre .0), few-inactive s y (c .before .before .before .pre .0))
 
-sub-remove : tie.Need-sub-remove
-sub-remove c = search needs
-
-part-remove-start : tie.Need-part-remove-start
-part-remove-start c = search needs
-
 part-remove-end : tie.Need-part-remove-end
 part-remove-end c = omega (arith, known (c .before .before .before .before .args .s .now) (c .before .before .before .before .pre .0) .long)
 
 remove-requires : tie.Need-remove-requires
 remove-requires c κs = let s = c .before .before .before .before .before .args .s .now in let y = bytes-of s (c .before .before .before .before .slice-known .given) in (long-inactive s y (c .before .before .before .before .before .pre .0), (few-inactive s y (c .before .before .before .before .before .pre .0), place-inactive s y (c .before .before .before .before .before .pre .0) (c .before .before .before .before .before .args .entry) (c .before .position .result) (c .before .position .ensures) (c .before .before .before .before .before .pre .1)))
-
-sub-inner-remove : tie.Need-sub-inner-remove
-sub-inner-remove c = search needs
-
-part-inner-remove-start : tie.Need-part-inner-remove-start
-part-inner-remove-start c = search needs
 
 part-inner-remove-end : tie.Need-part-inner-remove-end
 part-inner-remove-end c = omega (arith, known (c .before .before .before .before .before .before .before .before .args .s .now) (c .before .before .before .before .before .before .before .before .pre .0) .long, same-len-mid 385 385 (c .before .before .before .before .before .before .before .before .args .s .now) (c .before .before .remove .last .0) (c .before .before .remove .kept .0))
@@ -59,19 +41,5 @@ returns c = let s = c .before .before .before .before .before .before .before .b
 
 pub leave-inactive-spec : {M : Type 1} → statement M
 leave-inactive-spec =
-    tie.close
-    (tie.spec
-    sub-position
-    part-position-start
-    part-position-end
-    position-requires
-    sub-remove
-    part-remove-start
-    part-remove-end
-    remove-requires
-    sub-inner-remove
-    part-inner-remove-start
-    part-inner-remove-end
-    inner-remove-requires
-    same-length
-    returns)
+    tie.close (tie.spec (λ c. search needs) (λ c. search needs) part-position-end position-requires (λ c. search needs) (λ c. search needs)
+    part-remove-end remove-requires (λ c. search needs) (λ c. search needs) part-inner-remove-end inner-remove-requires same-length returns)

@@ -12,27 +12,6 @@ use Rattle.regular_change.proofs.Acts.{opened}
 use Rattle.regular_change.proofs.change.open_registry.Statement.{statement}
 use Rattle.regular_change.proofs.change.open_registry.Tie as tie
 
-fill-requires : tie.Need-fill-requires
-fill-requires c κs = search needs
-
-sub-inner-open : tie.Need-sub-inner-open
-sub-inner-open c = search needs
-
-part-inner-open-start : tie.Need-part-inner-open-start
-part-inner-open-start c = search needs
-
-part-inner-open-end : tie.Need-part-inner-open-end
-part-inner-open-end c = search needs
-
-inner-open-requires : tie.Need-inner-open-requires
-inner-open-requires c κs = search needs
-
-set-slots-requires : tie.Need-set-slots-requires
-set-slots-requires c κs = search needs
-
-slice-write-s : tie.Need-slice-write-s
-slice-write-s c = search needs
-
 same-length : tie.Need-same-length
 same-length c = omega (arith, length-set (c .before .before .set-slots .last .0) 1035 255, c .before .before .set-slots .kept .0, same-len-mid 770 262 (c .before .before .before .before .before .before .before .before .before .before .fill .last .0) (c .before .before .before .before .before .before .inner-open .last .0) (c .before .before .before .before .before .before .inner-open .kept .0), c .before .before .before .before .before .before .before .before .before .before .fill .kept .0)
 
@@ -41,14 +20,5 @@ returns c = let n = c .before .before .before .before .before .before .before .b
 
 pub open-registry-spec : {M : Type 1} → statement M
 open-registry-spec =
-    tie.close
-    (tie.spec
-    fill-requires
-    sub-inner-open
-    part-inner-open-start
-    part-inner-open-end
-    inner-open-requires
-    set-slots-requires
-    slice-write-s
-    same-length
-    returns)
+    tie.close (tie.spec (λ c κs. search needs) (λ c. search needs) (λ c. search needs) (λ c. search needs) (λ c κs. search needs)
+    (λ c κs. search needs) (λ c. search needs) same-length returns)

@@ -9,12 +9,6 @@ use Rattle.regular_change.proofs.Acts.{long-active, few-active, past-fe
 use Rattle.regular_change.proofs.change.pop_clean_up_last.Statement.{statement}
 use Rattle.regular_change.proofs.change.pop_clean_up_last.Tie as tie
 
-sub-past-last : tie.Need-sub-past-last
-sub-past-last c = search needs
-
-part-past-last-start : tie.Need-part-past-last-start
-part-past-last-start c = search needs
-
 part-past-last-end : tie.Need-part-past-last-end
 part-past-last-end c = omega (arith, known (c .before .before .args .s .now) (c .before .before .pre .0) .long)
 
@@ -35,13 +29,4 @@ returns c = (last-says (c .before .before .before .before .args .s .now) (bytes-
 
 pub pop-clean-up-last-spec : {M : Type 1} → statement M
 pop-clean-up-last-spec =
-    tie.close
-    (tie.spec
-    sub-past-last
-    part-past-last-start
-    part-past-last-end
-    past-last-requires
-    slice-write-s
-    cast-t8
-    same-length
-    returns)
+    tie.close (tie.spec (λ c. search needs) (λ c. search needs) part-past-last-end past-last-requires slice-write-s cast-t8 same-length returns)

@@ -12,35 +12,17 @@ use Rattle.regular_change.proofs.Acts.{long-active, few-active, whole-q
 use Rattle.regular_change.proofs.change.pop_clean_up_queue.Statement.{statement}
 use Rattle.regular_change.proofs.change.pop_clean_up_queue.Tie as tie
 
-sub-position : tie.Need-sub-position
-sub-position c = search needs
-
-part-position-start : tie.Need-part-position-start
-part-position-start c = search needs
-
 part-position-end : tie.Need-part-position-end
 part-position-end c = omega (arith, known (c .before .before .args .s .now) (c .before .before .pre .0) .long)
 
 position-requires : tie.Need-position-requires
 position-requires c κs = (long-active (c .before .before .before .args .s .now) (bytes-of (c .before .before .before .args .s .now) (c .before .before .slice-known .given)) (c .before .before .before .pre .0), few-active (c .before .before .before .args .s .now) (bytes-of (c .before .before .before .args .s .now) (c .before .before .slice-known .given)) (c .before .before .before .pre .0))
 
-sub-from-at : tie.Need-sub-from-at
-sub-from-at c = search needs
-
-part-from-at-start : tie.Need-part-from-at-start
-part-from-at-start c = search needs
-
 part-from-at-end : tie.Need-part-from-at-end
 part-from-at-end c = omega (arith, known (c .before .before .before .before .before .args .s .now) (c .before .before .before .before .before .pre .0) .long)
 
 from-at-requires : tie.Need-from-at-requires
 from-at-requires c κs = let l = front-place (c .before .before .before .before .before .before .args .s .now) (bytes-of (c .before .before .before .before .before .before .args .s .now) (c .before .before .before .before .before .slice-known .given)) (c .before .before .before .before .before .before .pre .0) (c .before .before .before .before .before .before .args .entry) (drop 1 (read (c .before .before .before .before .before .before .args .s .now) .cleanUp)) (first-some (read (c .before .before .before .before .before .before .args .s .now) .cleanUp) (c .before .before .before .before .before .before .args .entry) (c .before .before .before .before .before .before .pre .1)) (c .before .before .position .result) (c .before .before .position .ensures) in (long-active (c .before .before .before .before .before .before .args .s .now) (bytes-of (c .before .before .before .before .before .before .args .s .now) (c .before .before .before .before .before .slice-known .given)) (c .before .before .before .before .before .before .pre .0), (few-active (c .before .before .before .before .before .before .args .s .now) (bytes-of (c .before .before .before .before .before .before .args .s .now) (c .before .before .before .before .before .slice-known .given)) (c .before .before .before .before .before .before .pre .0), (l, subject-in-range (c .before .before .before .before .before .before .args .s .now) (c .before .before .before .before .before .before .pre .0) _ (omega (arith, l)))))
-
-sub-subject-at : tie.Need-sub-subject-at
-sub-subject-at c = search needs
-
-part-subject-at-start : tie.Need-part-subject-at-start
-part-subject-at-start c = search needs
 
 part-subject-at-end : tie.Need-part-subject-at-end
 part-subject-at-end c = omega (arith, known (c .before .before .before .before .before .before .before .before .args .s .now) (c .before .before .before .before .before .before .before .before .pre .0) .long)
@@ -50,12 +32,6 @@ subject-at-requires c κs = (long-active (c .before .before .before .before .bef
 
 sub-last : tie.Need-sub-last
 sub-last c = omega (arith, c .subject-at .ensures, front-above (c .before .before .before .before .before .before .before .before .before .before .args .s .now) (bytes-of (c .before .before .before .before .before .before .before .before .before .before .args .s .now) (c .before .before .before .before .before .before .before .before .before .slice-known .given)) (c .before .before .before .before .before .before .before .before .before .before .pre .0) (c .before .before .before .before .before .before .before .before .before .before .args .entry) (drop 1 (read (c .before .before .before .before .before .before .before .before .before .before .args .s .now) .cleanUp)) (first-some (read (c .before .before .before .before .before .before .before .before .before .before .args .s .now) .cleanUp) (c .before .before .before .before .before .before .before .before .before .before .args .entry) (c .before .before .before .before .before .before .before .before .before .before .pre .1)) (c .before .before .before .before .before .before .position .result) (c .before .before .before .before .before .before .position .ensures))
-
-sub-inner-remove : tie.Need-sub-inner-remove
-sub-inner-remove c = search needs
-
-part-inner-remove-start : tie.Need-part-inner-remove-start
-part-inner-remove-start c = search needs
 
 part-inner-remove-end : tie.Need-part-inner-remove-end
 part-inner-remove-end c = omega (arith, known (c .before .before .before .before .before .before .before .before .before .before .args .s .now) (c .before .before .before .before .before .before .before .before .before .before .pre .0) .long)
@@ -71,24 +47,6 @@ returns c = (front-says (c .before .before .before .before .before .before .befo
 
 pub pop-clean-up-queue-spec : {M : Type 1} → statement M
 pop-clean-up-queue-spec =
-    tie.close
-    (tie.spec
-    sub-position
-    part-position-start
-    part-position-end
-    position-requires
-    sub-from-at
-    part-from-at-start
-    part-from-at-end
-    from-at-requires
-    sub-subject-at
-    part-subject-at-start
-    part-subject-at-end
-    subject-at-requires
-    sub-last
-    sub-inner-remove
-    part-inner-remove-start
-    part-inner-remove-end
-    inner-remove-requires
-    same-length
-    returns)
+    tie.close (tie.spec (λ c. search needs) (λ c. search needs) part-position-end position-requires (λ c. search needs) (λ c. search needs)
+    part-from-at-end from-at-requires (λ c. search needs) (λ c. search needs) part-subject-at-end subject-at-requires sub-last (λ c. search needs)
+    (λ c. search needs) part-inner-remove-end inner-remove-requires same-length returns)

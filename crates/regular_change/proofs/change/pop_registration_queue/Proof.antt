@@ -18,23 +18,11 @@ use Rattle.regular_change.proofs.Acts.{long-active, long-inactive, few-
 use Rattle.regular_change.proofs.change.pop_registration_queue.Statement.{statement}
 use Rattle.regular_change.proofs.change.pop_registration_queue.Tie as tie
 
-sub-position : tie.Need-sub-position
-sub-position c = search needs
-
-part-position-start : tie.Need-part-position-start
-part-position-start c = search needs
-
 part-position-end : tie.Need-part-position-end
 part-position-end c = omega (arith, known (c .before .before .args .s .now) (c .before .before .pre .0) .long)
 
 position-requires : tie.Need-position-requires
 position-requires c κs = (long-inactive (c .before .before .before .args .s .now) (bytes-of (c .before .before .before .args .s .now) (c .before .before .slice-known .given)) (c .before .before .before .pre .0), few-inactive (c .before .before .before .args .s .now) (bytes-of (c .before .before .before .args .s .now) (c .before .before .slice-known .given)) (c .before .before .before .pre .0))
-
-sub-subject-at : tie.Need-sub-subject-at
-sub-subject-at c = search needs
-
-part-subject-at-start : tie.Need-part-subject-at-start
-part-subject-at-start c = search needs
 
 part-subject-at-end : tie.Need-part-subject-at-end
 part-subject-at-end c = omega (arith, known (c .before .before .before .before .before .args .s .now) (c .before .before .before .before .before .pre .0) .long)
@@ -42,38 +30,17 @@ part-subject-at-end c = omega (arith, known (c .before .before .before .before .
 subject-at-requires : tie.Need-subject-at-requires
 subject-at-requires c κs = (long-inactive (c .before .before .before .before .before .before .args .s .now) (bytes-of (c .before .before .before .before .before .before .args .s .now) (c .before .before .before .before .before .slice-known .given)) (c .before .before .before .before .before .before .pre .0), omega (arith, next-place (c .before .before .before .before .before .before .args .s .now) (bytes-of (c .before .before .before .before .before .before .args .s .now) (c .before .before .before .before .before .slice-known .given)) (c .before .before .before .before .before .before .pre .0) (c .before .before .before .before .before .before .args .entry) (c .before .before .position .result) (drop 1 (read (c .before .before .before .before .before .before .args .s .now) .activation)) (first-some (read (c .before .before .before .before .before .before .args .s .now) .activation) (c .before .before .before .before .before .before .args .entry) (c .before .before .before .before .before .before .pre .1 .1 .1)) (c .before .before .position .ensures), few-inactive (c .before .before .before .before .before .before .args .s .now) (bytes-of (c .before .before .before .before .before .before .args .s .now) (c .before .before .before .before .before .slice-known .given)) (c .before .before .before .before .before .before .pre .0)))
 
-on-active-requires : tie.Need-on-active-requires
-on-active-requires c κs = search needs
-
-sub-remove : tie.Need-sub-remove
-sub-remove c = search needs
-
-part-remove-start : tie.Need-part-remove-start
-part-remove-start c = search needs
-
 part-remove-end : tie.Need-part-remove-end
 part-remove-end c = omega (arith, known (c .before .before .before .before .before .before .before .before .before .args .s .now) (c .before .before .before .before .before .before .before .before .before .pre .0) .long)
 
 remove-requires : tie.Need-remove-requires
 remove-requires c κs = (long-inactive (c .before .before .before .before .before .before .before .before .before .before .args .s .now) (bytes-of (c .before .before .before .before .before .before .before .before .before .before .args .s .now) (c .before .before .before .before .before .before .before .before .before .slice-known .given)) (c .before .before .before .before .before .before .before .before .before .before .pre .0), (few-inactive (c .before .before .before .before .before .before .before .before .before .before .args .s .now) (bytes-of (c .before .before .before .before .before .before .before .before .before .before .args .s .now) (c .before .before .before .before .before .before .before .before .before .slice-known .given)) (c .before .before .before .before .before .before .before .before .before .before .pre .0), next-place (c .before .before .before .before .before .before .before .before .before .before .args .s .now) (bytes-of (c .before .before .before .before .before .before .before .before .before .before .args .s .now) (c .before .before .before .before .before .before .before .before .before .slice-known .given)) (c .before .before .before .before .before .before .before .before .before .before .pre .0) (c .before .before .before .before .before .before .before .before .before .before .args .entry) (c .before .before .before .before .before .before .position .result) (drop 1 (read (c .before .before .before .before .before .before .before .before .before .before .args .s .now) .activation)) (first-some (read (c .before .before .before .before .before .before .before .before .before .before .args .s .now) .activation) (c .before .before .before .before .before .before .before .before .before .before .args .entry) (c .before .before .before .before .before .before .before .before .before .before .pre .1 .1 .1)) (c .before .before .before .before .before .before .position .ensures)))
 
-sub-inner-remove : tie.Need-sub-inner-remove
-sub-inner-remove c = search needs
-
-part-inner-remove-start : tie.Need-part-inner-remove-start
-part-inner-remove-start c = search needs
-
 part-inner-remove-end : tie.Need-part-inner-remove-end
 part-inner-remove-end c = omega (arith, known (c .before .before .before .before .before .before .before .before .before .before .before .before .before .args .s .now) (c .before .before .before .before .before .before .before .before .before .before .before .before .before .pre .0) .long, same-len-mid 385 385 (c .before .before .before .before .before .before .before .before .before .before .before .before .before .args .s .now) (c .before .before .remove .last .0) (c .before .before .remove .kept .0))
 
 inner-remove-requires : tie.Need-inner-remove-requires
 inner-remove-requires c κs = let w = next-whole (c .before .before .before .before .before .before .before .before .before .before .before .before .before .before .args .s .now) (bytes-of (c .before .before .before .before .before .before .before .before .before .before .before .before .before .before .args .s .now) (c .before .before .before .before .before .before .before .before .before .before .before .before .before .slice-known .given)) (c .before .before .before .before .before .before .before .before .before .before .before .before .before .before .pre .0) (c .before .before .before .before .before .before .before .before .before .before .before .before .before .before .args .entry) (c .before .before .before .before .before .before .before .before .before .before .position .result) (drop 1 (read (c .before .before .before .before .before .before .before .before .before .before .before .before .before .before .args .s .now) .activation)) (first-some (read (c .before .before .before .before .before .before .before .before .before .before .before .before .before .before .args .s .now) .activation) (c .before .before .before .before .before .before .before .before .before .before .before .before .before .before .args .entry) (c .before .before .before .before .before .before .before .before .before .before .before .before .before .before .pre .1 .1 .1)) (c .before .before .before .before .before .before .before .before .before .before .position .ensures) (c .before .before .before .remove .last .0) (c .before .before .before .remove .ensures) in (w .whole, omega (arith, w .entries, next-entry (c .before .before .before .before .before .before .before .before .before .before .before .before .before .before .args .s .now) (bytes-of (c .before .before .before .before .before .before .before .before .before .before .before .before .before .before .args .s .now) (c .before .before .before .before .before .before .before .before .before .before .before .before .before .slice-known .given)) (c .before .before .before .before .before .before .before .before .before .before .before .before .before .before .pre .0) (c .before .before .before .before .before .before .before .before .before .before .before .before .before .before .args .entry) (c .before .before .before .before .before .before .before .before .before .before .position .result) (drop 1 (read (c .before .before .before .before .before .before .before .before .before .before .before .before .before .before .args .s .now) .activation)) (first-some (read (c .before .before .before .before .before .before .before .before .before .before .before .before .before .before .args .s .now) .activation) (c .before .before .before .before .before .before .before .before .before .before .before .before .before .before .args .entry) (c .before .before .before .before .before .before .before .before .before .before .before .before .before .before .pre .1 .1 .1)) (c .before .before .before .before .before .before .before .before .before .before .position .ensures)))
-
-sub-insert : tie.Need-sub-insert
-sub-insert c = search needs
-
-part-insert-start : tie.Need-part-insert-start
-part-insert-start c = search needs
 
 part-insert-end : tie.Need-part-insert-end
 part-insert-end c = omega (arith, known (c .before .before .before .before .before .before .before .before .before .before .before .before .before .before .before .before .before .args .s .now) (c .before .before .before .before .before .before .before .before .before .before .before .before .before .before .before .before .before .pre .0) .long, same-len-mid 385 385 (c .before .before .before .before .before .before .before .before .before .before .before .before .before .before .before .before .before .args .s .now) (c .before .before .before .before .before .before .remove .last .0) (c .before .before .before .before .before .before .remove .kept .0), same-len-mid 770 262 (putMid 385 385 (c .before .before .before .before .before .before .before .before .before .before .before .before .before .before .before .before .before .args .s .now) (c .before .before .before .before .before .before .remove .last .0)) (c .before .before .inner-remove .last .0) (c .before .before .inner-remove .kept .0))
@@ -95,30 +62,7 @@ returns-2 c = let s = c .before .before .before .before .before .before .before 
 
 pub pop-registration-queue-spec : {M : Type 1} → statement M
 pop-registration-queue-spec =
-    tie.close
-    (tie.spec
-    sub-position
-    part-position-start
-    part-position-end
-    position-requires
-    sub-subject-at
-    part-subject-at-start
-    part-subject-at-end
-    subject-at-requires
-    on-active-requires
-    sub-remove
-    part-remove-start
-    part-remove-end
-    remove-requires
-    sub-inner-remove
-    part-inner-remove-start
-    part-inner-remove-end
-    inner-remove-requires
-    sub-insert
-    part-insert-start
-    part-insert-end
-    insert-requires
-    same-length
-    returns
-    same-length-2
-    returns-2)
+    tie.close (tie.spec (λ c. search needs) (λ c. search needs) part-position-end position-requires (λ c. search needs) (λ c. search needs)
+    part-subject-at-end subject-at-requires (λ c κs. search needs) (λ c. search needs) (λ c. search needs) part-remove-end remove-requires
+    (λ c. search needs) (λ c. search needs) part-inner-remove-end inner-remove-requires (λ c. search needs) (λ c. search needs) part-insert-end
+    insert-requires same-length returns same-length-2 returns-2)

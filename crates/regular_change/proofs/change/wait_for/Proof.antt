@@ -19,23 +19,11 @@ use Rattle.regular_change.proofs.Acts.{long-inactive, room-inactive, wh
 use Rattle.regular_change.proofs.change.wait_for.Statement.{statement}
 use Rattle.regular_change.proofs.change.wait_for.Tie as tie
 
-sub-insert : tie.Need-sub-insert
-sub-insert c = search needs
-
-part-insert-start : tie.Need-part-insert-start
-part-insert-start c = search needs
-
 part-insert-end : tie.Need-part-insert-end
 part-insert-end c = omega (arith, known (c .before .args .s .now) (c .before .pre .0) .long)
 
 insert-requires : tie.Need-insert-requires
 insert-requires c κs = let s = c .before .before .args .s .now in let y = bytes-of s (c .before .slice-known .given) in (long-inactive s y (c .before .before .pre .0), (room-inactive s y (c .before .before .pre .0) (c .before .before .args .entry) (c .before .before .pre .1 .0 .0) (c .before .before .pre .1 .1 .0) (c .before .before .pre .1 .1 .1), known s (c .before .before .pre .0) .conditions .order-i))
-
-sub-inner-move-back : tie.Need-sub-inner-move-back
-sub-inner-move-back c = search needs
-
-part-inner-move-back-start : tie.Need-part-inner-move-back-start
-part-inner-move-back-start c = search needs
 
 part-inner-move-back-end : tie.Need-part-inner-move-back-end
 part-inner-move-back-end c = omega (arith, known (c .before .before .before .before .before .args .s .now) (c .before .before .before .before .before .pre .0) .long, same-len-mid 385 385 (c .before .before .before .before .before .args .s .now) (c .before .before .insert .last .0) (c .before .before .insert .kept .0))
@@ -54,16 +42,5 @@ returns c = let s = c .before .before .before .before .before .before .before .b
 
 pub wait-for-spec : {M : Type 1} → statement M
 wait-for-spec =
-    tie.close
-    (tie.spec
-    sub-insert
-    part-insert-start
-    part-insert-end
-    insert-requires
-    sub-inner-move-back
-    part-inner-move-back-start
-    part-inner-move-back-end
-    inner-move-back-requires
-    set-slots-requires
-    same-length
-    returns)
+    tie.close (tie.spec (λ c. search needs) (λ c. search needs) part-insert-end insert-requires (λ c. search needs) (λ c. search needs)
+    part-inner-move-back-end inner-move-back-requires set-slots-requires same-length returns)

@@ -6,17 +6,9 @@ use Rattle.regular_change.proofs.look.from_at.Tie as tie
 returns : tie.Need-returns
 returns c = from-first (c .before .before .args .t .now) (c .before .before .args .i) (c .if1 .taken)
 
-sub-subject-at : tie.Need-sub-subject-at
-sub-subject-at c = search needs
-
-subject-at-requires : tie.Need-subject-at-requires
-subject-at-requires c κs = search needs
-
-add-result : tie.Need-add-result
-add-result c = search needs
-
 returns-2 : tie.Need-returns-2
 returns-2 c = from-past (c .before .before .before .args .t .now) (c .before .before .before .args .i) (c .subject-at .result) (c .before .if1 .left) (c .subject-at .ensures)
 
 pub from-at-spec : {M : Type 1} → statement M
-from-at-spec = tie.close (tie.spec returns sub-subject-at subject-at-requires add-result returns-2)
+from-at-spec =
+    tie.close (tie.spec returns (λ c. search needs) (λ c κs. search needs) (λ c. search needs) returns-2)

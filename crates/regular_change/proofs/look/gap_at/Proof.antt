@@ -7,23 +7,11 @@ use Rattle.regular_change.proofs.Looks.{known, entry-at-place, subject-
 use Rattle.regular_change.proofs.look.gap_at.Statement.{statement}
 use Rattle.regular_change.proofs.look.gap_at.Tie as tie
 
-sub-subject-at : tie.Need-sub-subject-at
-sub-subject-at c = search needs
-
-part-subject-at-start : tie.Need-part-subject-at-start
-part-subject-at-start c = search needs
-
 part-subject-at-end : tie.Need-part-subject-at-end
 part-subject-at-end c = omega (arith, known (c .before .args .s .now) (c .before .pre .0) .long)
 
 subject-at-requires : tie.Need-subject-at-requires
 subject-at-requires c κs = let k = known (c .before .before .args .s .now) (c .before .before .pre .0) in (k .active-long, omega (arith, k .active-few, c .before .before .pre .1))
-
-sub-from-at : tie.Need-sub-from-at
-sub-from-at c = search needs
-
-part-from-at-start : tie.Need-part-from-at-start
-part-from-at-start c = search needs
 
 part-from-at-end : tie.Need-part-from-at-end
 part-from-at-end c = omega (arith, known (c .before .before .before .args .s .now) (c .before .before .before .pre .0) .long)
@@ -33,12 +21,6 @@ from-at-requires c κs = let k = known (c .before .before .before .before .args 
 
 returns : tie.Need-returns
 returns c = gap-same (activePart (c .before .before .before .before .before .before .args .s .now)) (entryAt (activePart (c .before .before .before .before .before .before .args .s .now)) (c .before .before .before .before .before .before .args .i)) (c .before .before .before .before .before .before .args .i) (entry-at-place (c .before .before .before .before .before .before .args .s .now) (c .before .before .before .before .before .before .pre .0) (c .before .before .before .before .before .before .args .i) (c .before .before .before .before .before .before .pre .1)) (c .before .before .before .before .before .before .pre .1) (read (c .before .before .before .before .before .before .args .s .now) .cleanUp) (c .before .before .before .subject-at .result) (c .before .from-at .result) (c .before .before .before .subject-at .ensures) (c .before .from-at .ensures) (c .if1 .taken)
-
-sub-len : tie.Need-sub-len
-sub-len c = search needs
-
-part-len-start : tie.Need-part-len-start
-part-len-start c = search needs
 
 part-len-end : tie.Need-part-len-end
 part-len-end c = omega (arith, known (c .before .before .before .before .before .before .args .s .now) (c .before .before .before .before .before .before .pre .0) .long)
@@ -60,22 +42,6 @@ returns-3 c = gap-next (activePart (c .before .before .before .before .before .b
 
 pub gap-at-spec : {M : Type 1} → statement M
 gap-at-spec =
-    tie.close
-    (tie.spec
-    sub-subject-at
-    part-subject-at-start
-    part-subject-at-end
-    subject-at-requires
-    sub-from-at
-    part-from-at-start
-    part-from-at-end
-    from-at-requires
-    returns
-    sub-len
-    part-len-start
-    part-len-end
-    len-requires
-    add-if2
-    returns-2
-    next-gap-requires
+    tie.close (tie.spec (λ c. search needs) (λ c. search needs) part-subject-at-end subject-at-requires (λ c. search needs) (λ c. search needs)
+    part-from-at-end from-at-requires returns (λ c. search needs) (λ c. search needs) part-len-end len-requires add-if2 returns-2 next-gap-requires
     returns-3)

@@ -6,12 +6,6 @@ use Rattle.regular_change.proofs.Looks.{known, active-in-range, active-
 use Rattle.regular_change.proofs.look.is_marked.Statement.{statement}
 use Rattle.regular_change.proofs.look.is_marked.Tie as tie
 
-sub-inner-is-linked : tie.Need-sub-inner-is-linked
-sub-inner-is-linked c = search needs
-
-part-inner-is-linked-start : tie.Need-part-inner-is-linked-start
-part-inner-is-linked-start c = search needs
-
 part-inner-is-linked-end : tie.Need-part-inner-is-linked-end
 part-inner-is-linked-end c = omega (arith, known (c .before .args .s .now) (c .before .pre .0) .long)
 
@@ -23,10 +17,4 @@ returns c = c .inner-is-linked .ensures ∙ ap (ltb 0) (active-linked (c .before
 
 pub is-marked-spec : {M : Type 1} → statement M
 is-marked-spec =
-    tie.close
-    (tie.spec
-    sub-inner-is-linked
-    part-inner-is-linked-start
-    part-inner-is-linked-end
-    inner-is-linked-requires
-    returns)
+    tie.close (tie.spec (λ c. search needs) (λ c. search needs) part-inner-is-linked-end inner-is-linked-requires returns)

@@ -8,23 +8,11 @@ use Rattle.regular_change.proofs.Looks.{known, entry-active, next-marke
 use Rattle.regular_change.proofs.look.next_gap.Statement.{statement}
 use Rattle.regular_change.proofs.look.next_gap.Tie as tie
 
-sub-entry-at : tie.Need-sub-entry-at
-sub-entry-at c = search needs
-
-part-entry-at-start : tie.Need-part-entry-at-start
-part-entry-at-start c = search needs
-
 part-entry-at-end : tie.Need-part-entry-at-end
 part-entry-at-end c = omega (arith, known (c .before .args .s .now) (c .before .pre .0) .long)
 
 entry-at-requires : tie.Need-entry-at-requires
 entry-at-requires c κs = let k = known (c .before .before .args .s .now) (c .before .before .pre .0) in (k .active-long, omega (arith, k .active-few, c .before .before .pre .1))
-
-sub-entry-at-2 : tie.Need-sub-entry-at-2
-sub-entry-at-2 c = search needs
-
-part-entry-at-start-2 : tie.Need-part-entry-at-start-2
-part-entry-at-start-2 c = search needs
 
 part-entry-at-end-2 : tie.Need-part-entry-at-end-2
 part-entry-at-end-2 c = omega (arith, known (c .before .before .before .args .s .now) (c .before .before .before .pre .0) .long)
@@ -47,23 +35,11 @@ is-marked-requires-2 c κs = (c .before .before .before .before .before .before 
 returns-2 : tie.Need-returns-2
 returns-2 c = here-marked (activePart (c .before .before .before .before .before .before .before .before .before .args .s .now)) (read (c .before .before .before .before .before .before .before .before .before .args .s .now) .cleanUp) (c .before .before .before .before .before .before .before .before .before .args .i) (c .before .before .before .before .before .before .before .before .before .args .i + 1) (omega arith) (omega (arith, c .before .before .before .before .before .before .before .before .before .pre .1)) (c .before .before .before .before .before .before .entry-at .result) (c .before .before .before .before .entry-at2 .result) (c .before .before .before .before .before .before .entry-at .ensures) (c .before .before .before .before .entry-at2 .ensures) (sym (c .before .before .before .is-marked .ensures) ∙ c .before .before .if1 .left) (sym (c .before .is-marked2 .ensures) ∙ c .if2 .taken)
 
-sub-subject-at : tie.Need-sub-subject-at
-sub-subject-at c = search needs
-
-part-subject-at-start : tie.Need-part-subject-at-start
-part-subject-at-start c = search needs
-
 part-subject-at-end : tie.Need-part-subject-at-end
 part-subject-at-end c = omega (arith, known (c .before .before .before .before .before .before .before .before .before .args .s .now) (c .before .before .before .before .before .before .before .before .before .pre .0) .long)
 
 subject-at-requires : tie.Need-subject-at-requires
 subject-at-requires c κs = let k = known (c .before .before .before .before .before .before .before .before .before .before .args .s .now) (c .before .before .before .before .before .before .before .before .before .before .pre .0) in (k .active-long, omega (arith, k .active-few, c .before .before .before .before .before .before .before .before .before .before .pre .1))
-
-sub-subject-at-2 : tie.Need-sub-subject-at-2
-sub-subject-at-2 c = search needs
-
-part-subject-at-start-2 : tie.Need-part-subject-at-start-2
-part-subject-at-start-2 c = search needs
 
 part-subject-at-end-2 : tie.Need-part-subject-at-end-2
 part-subject-at-end-2 c = omega (arith, known (c .before .before .before .before .before .before .before .before .before .before .before .args .s .now) (c .before .before .before .before .before .before .before .before .before .before .before .pre .0) .long)
@@ -82,29 +58,7 @@ returns-4 c = no-gap-before (activePart (c .before .before .before .before .befo
 
 pub next-gap-spec : {M : Type 1} → statement M
 next-gap-spec =
-    tie.close
-    (tie.spec
-    sub-entry-at
-    part-entry-at-start
-    part-entry-at-end
-    entry-at-requires
-    sub-entry-at-2
-    part-entry-at-start-2
-    part-entry-at-end-2
-    add-entry-at
-    entry-at-requires-2
-    is-marked-requires
-    returns
-    is-marked-requires-2
-    returns-2
-    sub-subject-at
-    part-subject-at-start
-    part-subject-at-end
-    subject-at-requires
-    sub-subject-at-2
-    part-subject-at-start-2
-    part-subject-at-end-2
-    add-subject-at
-    subject-at-requires-2
-    returns-3
-    returns-4)
+    tie.close (tie.spec (λ c. search needs) (λ c. search needs) part-entry-at-end entry-at-requires (λ c. search needs) (λ c. search needs)
+    part-entry-at-end-2 add-entry-at entry-at-requires-2 is-marked-requires returns is-marked-requires-2 returns-2 (λ c. search needs)
+    (λ c. search needs) part-subject-at-end subject-at-requires (λ c. search needs) (λ c. search needs) part-subject-at-end-2 add-subject-at
+    subject-at-requires-2 returns-3 returns-4)

@@ -11,41 +11,17 @@ use Rattle.rx_msg.proofs.LoopBack.{unregister-entry, unregister-none, u
 use Rattle.rx_msg.proofs.loop_back_inner.unregister.Statement.{statement}
 use Rattle.rx_msg.proofs.loop_back_inner.unregister.Tie as tie
 
-whole-requires : tie.Need-whole-requires
-whole-requires c κs = search needs
-
-same-length : tie.Need-same-length
-same-length c = search needs
-
 returns : tie.Need-returns
 returns c = not-whole wholeB read laid (Refused 1) (unregister (c .before .before .before .before .args .entry)) (c .before .before .before .before .args .s .now) (sym (c .before .whole .ensures) ∙ c .if1 .left)
-
-same-length-2 : tie.Need-same-length-2
-same-length-2 c = search needs
 
 returns-2 : tie.Need-returns-2
 returns-2 c = unregister-entry (c .before .before .before .before .before .args .s .now) (sym (c .before .before .whole .ensures) ∙ c .before .if1 .taken) (c .before .before .before .before .before .args .entry) (c .if2 .taken)
 
-sub-position : tie.Need-sub-position
-sub-position c = search needs
-
-part-position-start : tie.Need-part-position-start
-part-position-start c = search needs
-
 part-position-end : tie.Need-part-position-end
 part-position-end c = omega (arith, whole-of (c .before .before .before .before .before .before .args .s .now) (sym (c .before .before .before .whole .ensures) ∙ c .before .before .if1 .taken) .long)
 
-cast-position : tie.Need-cast-position
-cast-position c = search needs
-
 position-requires : tie.Need-position-requires
 position-requires c κs = (long-tree (c .before .before .before .before .before .before .before .args .s .now) (sym (c .before .before .before .before .whole .ensures) ∙ c .before .before .before .if1 .taken), few-pairs (c .before .before .before .before .before .before .before .args .s .now) (sym (c .before .before .before .before .whole .ensures) ∙ c .before .before .before .if1 .taken))
-
-sub-len : tie.Need-sub-len
-sub-len c = search needs
-
-part-len-start : tie.Need-part-len-start
-part-len-start c = search needs
 
 part-len-end : tie.Need-part-len-end
 part-len-end c = omega (arith, whole-of (c .before .before .before .before .before .before .before .before .before .args .s .now) (sym (c .before .before .before .before .before .before .whole .ensures) ∙ c .before .before .before .before .before .if1 .taken) .long)
@@ -53,45 +29,17 @@ part-len-end c = omega (arith, whole-of (c .before .before .before .before .befo
 len-requires : tie.Need-len-requires
 len-requires c κs = long-tree (c .before .before .before .before .before .before .before .before .before .before .args .s .now) (sym (c .before .before .before .before .before .before .before .whole .ensures) ∙ c .before .before .before .before .before .before .if1 .taken)
 
-same-length-3 : tie.Need-same-length-3
-same-length-3 c = search needs
-
 returns-3 : tie.Need-returns-3
 returns-3 c = unregister-none (c .before .before .before .before .before .before .before .before .before .before .before .before .args .s .now) (sym (c .before .before .before .before .before .before .before .before .before .whole .ensures) ∙ c .before .before .before .before .before .before .before .before .if1 .taken) (c .before .before .before .before .before .before .before .before .before .before .before .before .args .entry) (c .before .before .before .before .before .before .before .if2 .left) _ _ (c .before .before .before .before .position .ensures) (c .before .len .ensures .0) (c .if3 .taken)
 
-cast-leave : tie.Need-cast-leave
-cast-leave c = search needs
-
 leave-requires : tie.Need-leave-requires
 leave-requires c κs = ((sym (c .before .before .before .before .before .before .before .before .before .before .whole .ensures) ∙ c .before .before .before .before .before .before .before .before .before .if1 .taken), (omega (arith, c .before .before .before .before .before .before .before .before .if2 .left), (c .before .before .before .before .before .position .ensures, omega (arith, c .before .before .len .ensures .0, c .before .if3 .left))))
-
-same-length-4 : tie.Need-same-length-4
-same-length-4 c = search needs
 
 returns-4 : tie.Need-returns-4
 returns-4 c = unregistered (c .before .before .before .before .before .before .before .before .before .before .before .before .before .before .before .before .args .s .now) (sym (c .before .before .before .before .before .before .before .before .before .before .before .before .before .whole .ensures) ∙ c .before .before .before .before .before .before .before .before .before .before .before .before .if1 .taken) (c .before .before .before .before .before .before .before .before .before .before .before .before .before .before .before .before .args .entry) (c .before .before .before .before .before .before .before .before .before .before .before .if2 .left) _ _ (c .before .before .before .before .before .before .before .before .position .ensures) (c .before .before .before .before .before .len .ensures .0) (c .before .before .before .before .if3 .left) _ (c .before .before .leave .ensures)
 
 pub unregister-spec : {M : Type 1} → statement M
 unregister-spec =
-    tie.close
-    (tie.spec
-    whole-requires
-    same-length
-    returns
-    same-length-2
-    returns-2
-    sub-position
-    part-position-start
-    part-position-end
-    cast-position
-    position-requires
-    sub-len
-    part-len-start
-    part-len-end
-    len-requires
-    same-length-3
-    returns-3
-    cast-leave
-    leave-requires
-    same-length-4
-    returns-4)
+    tie.close (tie.spec (λ c κs. search needs) (λ c. search needs) returns (λ c. search needs) returns-2 (λ c. search needs) (λ c. search needs)
+    part-position-end (λ c. search needs) position-requires (λ c. search needs) (λ c. search needs) part-len-end len-requires (λ c. search needs)
+    returns-3 (λ c. search needs) leave-requires (λ c. search needs) returns-4)

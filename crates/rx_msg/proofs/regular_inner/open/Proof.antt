@@ -9,14 +9,9 @@ returns c = opened-other (c .before .before .args .s .now) (c .before .before .a
 returns-2 : tie.Need-returns-2
 returns-2 c = opened-past (c .before .before .before .args .s .now) (c .before .before .before .args .slots) (c .before .if1 .left) (c .if2 .taken)
 
-open-registry-requires : tie.Need-open-registry-requires
-open-registry-requires c κs = search needs
-
-same-length : tie.Need-same-length
-same-length c = search needs
-
 returns-3 : tie.Need-returns-3
 returns-3 c = opened-fresh (c .before .before .before .before .before .before .before .args .s .now) (c .before .before .before .before .before .before .before .args .slots) (c .before .before .before .before .before .if1 .left) (c .before .before .before .before .if2 .left) _ (c .before .before .open-registry .ensures)
 
 pub open-spec : {M : Type 1} → statement M
-open-spec = tie.close (tie.spec returns returns-2 open-registry-requires same-length returns-3)
+open-spec =
+    tie.close (tie.spec returns returns-2 (λ c κs. search needs) (λ c. search needs) returns-3)

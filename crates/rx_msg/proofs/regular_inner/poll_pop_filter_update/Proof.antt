@@ -8,26 +8,14 @@ use Rattle.rx_msg.proofs.Polling.{clean-up-front, flag-set, flag-clear}
 use Rattle.rx_msg.proofs.regular_inner.poll_pop_filter_update.Statement.{statement}
 use Rattle.rx_msg.proofs.regular_inner.poll_pop_filter_update.Tie as tie
 
-sub-inner-front : tie.Need-sub-inner-front
-sub-inner-front c = search needs
-
-part-inner-front-start : tie.Need-part-inner-front-start
-part-inner-front-start c = search needs
-
 part-inner-front-end : tie.Need-part-inner-front-end
 part-inner-front-end c = omega (arith, known (c .before .before .args .s .now) (c .before .before .pre) .long)
 
 inner-front-requires : tie.Need-inner-front-requires
 inner-front-requires c κs = let k = known (c .before .before .before .args .s .now) (c .before .before .before .pre) in (k .queue-whole, omega (arith, k .classes))
 
-enum-known-front : tie.Need-enum-known-front
-enum-known-front c = search needs
-
 pop-clean-up-queue-requires : tie.Need-pop-clean-up-queue-requires
 pop-clean-up-queue-requires c κs = (c .before .before .before .before .before .before .before .before .pre, sym (clean-up-front (c .before .before .before .before .before .before .before .before .args .s .now) (c .before .before .before .before .before .before .before .before .pre)) ∙ sym (c .before .before .before .before .inner-front .ensures) ∙ c .before .before .front .given .1)
-
-enum-told : tie.Need-enum-told
-enum-told c = search needs
 
 slice-read-if1 : tie.Need-slice-read-if1
 slice-read-if1 c = omega (arith, known (c .before .before .before .before .before .before .before .args .s .now) (c .before .before .before .before .before .before .before .pre) .long)
@@ -35,44 +23,11 @@ slice-read-if1 c = omega (arith, known (c .before .before .before .before .befor
 pop-clean-up-last-requires : tie.Need-pop-clean-up-last-requires
 pop-clean-up-last-requires c κs = (c .before .before .before .before .before .before .before .before .before .pre, (first-none (read (c .before .before .before .before .before .before .before .before .before .args .s .now) .cleanUp) (sym (clean-up-front (c .before .before .before .before .before .before .before .before .before .args .s .now) (c .before .before .before .before .before .before .before .before .before .pre)) ∙ sym (c .before .before .before .before .before .inner-front .ensures) ∙ c .before .before .before .enum-told .given .1), flag-set _ (c .before .if1 .taken)))
 
-same-length : tie.Need-same-length
-same-length c = search needs
-
-returns : tie.Need-returns
-returns c = search needs
-
 pop-registration-requires : tie.Need-pop-registration-requires
 pop-registration-requires c κs = (c .before .before .before .before .before .before .before .before .before .pre, (first-none (read (c .before .before .before .before .before .before .before .before .before .args .s .now) .cleanUp) (sym (clean-up-front (c .before .before .before .before .before .before .before .before .before .args .s .now) (c .before .before .before .before .before .before .before .before .before .pre)) ∙ sym (c .before .before .before .before .before .inner-front .ensures) ∙ c .before .before .before .enum-told .given .1), flag-clear _ (c .before .if1 .left)))
 
-same-length-2 : tie.Need-same-length-2
-same-length-2 c = search needs
-
-returns-2 : tie.Need-returns-2
-returns-2 c = search needs
-
-same-length-3 : tie.Need-same-length-3
-same-length-3 c = search needs
-
-returns-3 : tie.Need-returns-3
-returns-3 c = search needs
-
 pub poll-pop-filter-update-spec : {M : Type 1} → statement M
 poll-pop-filter-update-spec =
-    tie.close
-    (tie.spec
-    sub-inner-front
-    part-inner-front-start
-    part-inner-front-end
-    inner-front-requires
-    enum-known-front
-    pop-clean-up-queue-requires
-    enum-told
-    slice-read-if1
-    pop-clean-up-last-requires
-    same-length
-    returns
-    pop-registration-requires
-    same-length-2
-    returns-2
-    same-length-3
-    returns-3)
+    tie.close (tie.spec (λ c. search needs) (λ c. search needs) part-inner-front-end inner-front-requires (λ c. search needs)
+    pop-clean-up-queue-requires (λ c. search needs) slice-read-if1 pop-clean-up-last-requires (λ c. search needs) (λ c. search needs)
+    pop-registration-requires (λ c. search needs) (λ c. search needs) (λ c. search needs) (λ c. search needs))

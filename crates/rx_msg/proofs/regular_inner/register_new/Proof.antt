@@ -7,67 +7,23 @@ use Rattle.rx_msg.proofs.Calls.{as-is, as-laid, register-waits, registe
 use Rattle.rx_msg.proofs.regular_inner.register_new.Statement.{statement}
 use Rattle.rx_msg.proofs.regular_inner.register_new.Tie as tie
 
-slots-requires : tie.Need-slots-requires
-slots-requires c κs = search needs
-
-on-inactive-requires : tie.Need-on-inactive-requires
-on-inactive-requires c κs = search needs
-
-wait-for-requires : tie.Need-wait-for-requires
-wait-for-requires c κs = search needs
-
-same-length : tie.Need-same-length
-same-length c = search needs
-
 returns : tie.Need-returns
 returns c = as-laid (c .before .before .before .before .before .before .before .before .before .before .args .s .now) (register (c .before .before .before .before .before .before .before .before .before .before .args .entry) (c .before .before .before .before .before .before .before .before .before .before .args .subject) (read (c .before .before .before .before .before .before .before .before .before .before .args .s .now))) _ _ _ (register-waits (c .before .before .before .before .before .before .before .before .before .before .args .entry) (c .before .before .before .before .before .before .before .before .before .before .args .subject) (read (c .before .before .before .before .before .before .before .before .before .before .args .s .now)) (omega (arith, c .before .before .before .before .before .before .before .before .before .before .pre .1 .0 .0)) (c .before .before .before .before .before .before .before .before .before .before .pre .1 .0 .1) (c .before .before .before .before .before .before .before .before .before .before .pre .1 .1 .0) (c .before .before .before .before .before .before .before .before .before .before .pre .1 .1 .1) (sym (c .before .before .before .before .before .on-inactive .ensures) ∙ c .before .before .before .before .if1 .taken) _ (c .before .before .before .before .before .before .before .slots .ensures .0)) (c .before .before .wait-for .ensures)
-
-on-active-requires : tie.Need-on-active-requires
-on-active-requires c κs = search needs
-
-join-requires : tie.Need-join-requires
-join-requires c κs = search needs
-
-same-length-2 : tie.Need-same-length-2
-same-length-2 c = search needs
 
 returns-2 : tie.Need-returns-2
 returns-2 c = as-laid (c .before .before .before .before .before .before .before .before .before .before .before .before .before .args .s .now) (register (c .before .before .before .before .before .before .before .before .before .before .before .before .before .args .entry) (c .before .before .before .before .before .before .before .before .before .before .before .before .before .args .subject) (read (c .before .before .before .before .before .before .before .before .before .before .before .before .before .args .s .now))) _ _ _ (register-joins (c .before .before .before .before .before .before .before .before .before .before .before .before .before .args .entry) (c .before .before .before .before .before .before .before .before .before .before .before .before .before .args .subject) (read (c .before .before .before .before .before .before .before .before .before .before .before .before .before .args .s .now)) (omega (arith, c .before .before .before .before .before .before .before .before .before .before .before .before .before .pre .1 .0 .0)) (c .before .before .before .before .before .before .before .before .before .before .before .before .before .pre .1 .0 .1) (c .before .before .before .before .before .before .before .before .before .before .before .before .before .pre .1 .1 .0) (c .before .before .before .before .before .before .before .before .before .before .before .before .before .pre .1 .1 .1) (sym (c .before .before .before .before .before .before .before .before .on-inactive .ensures) ∙ c .before .before .before .before .before .before .before .if1 .left) (sym (c .before .before .before .before .before .on-active .ensures) ∙ c .before .before .before .before .if2 .taken)) (c .before .before .join .ensures)
 
-same-length-3 : tie.Need-same-length-3
-same-length-3 c = search needs
-
 returns-3 : tie.Need-returns-3
 returns-3 c = as-is (c .before .before .before .before .before .before .before .before .before .before .args .s .now) (register (c .before .before .before .before .before .before .before .before .before .before .args .entry) (c .before .before .before .before .before .before .before .before .before .before .args .subject) (read (c .before .before .before .before .before .before .before .before .before .before .args .s .now))) _ (register-full (c .before .before .before .before .before .before .before .before .before .before .args .entry) (c .before .before .before .before .before .before .before .before .before .before .args .subject) (read (c .before .before .before .before .before .before .before .before .before .before .args .s .now)) (omega (arith, c .before .before .before .before .before .before .before .before .before .before .pre .1 .0 .0)) (c .before .before .before .before .before .before .before .before .before .before .pre .1 .0 .1) (c .before .before .before .before .before .before .before .before .before .before .pre .1 .1 .0) (c .before .before .before .before .before .before .before .before .before .before .pre .1 .1 .1) (sym (c .before .before .before .before .before .on-inactive .ensures) ∙ c .before .before .before .before .if1 .left) (sym (c .before .before .on-active .ensures) ∙ c .before .if2 .left) (sym (c .before .before .before .before .before .before .before .slots .ensures .0) ∙ c .if3 .taken))
 
-sub-wait-for : tie.Need-sub-wait-for
-sub-wait-for c = search needs
-
 wait-for-requires-2 : tie.Need-wait-for-requires-2
 wait-for-requires-2 c κs = (c .before .before .before .before .before .before .before .before .before .before .before .pre .0, ((c .before .before .before .before .before .before .before .before .before .before .before .pre .1 .0 .0, omega (arith, c .before .before .before .before .before .before .before .before .slots .ensures .1)), c .before .before .before .before .before .before .before .before .before .before .before .pre .1 .1))
-
-same-length-4 : tie.Need-same-length-4
-same-length-4 c = search needs
 
 returns-4 : tie.Need-returns-4
 returns-4 c = as-laid (c .before .before .before .before .before .before .before .before .before .before .before .before .before .before .args .s .now) (register (c .before .before .before .before .before .before .before .before .before .before .before .before .before .before .args .entry) (c .before .before .before .before .before .before .before .before .before .before .before .before .before .before .args .subject) (read (c .before .before .before .before .before .before .before .before .before .before .before .before .before .before .args .s .now))) _ _ _ (register-takes (c .before .before .before .before .before .before .before .before .before .before .before .before .before .before .args .entry) (c .before .before .before .before .before .before .before .before .before .before .before .before .before .before .args .subject) (read (c .before .before .before .before .before .before .before .before .before .before .before .before .before .before .args .s .now)) (omega (arith, c .before .before .before .before .before .before .before .before .before .before .before .before .before .before .pre .1 .0 .0)) (c .before .before .before .before .before .before .before .before .before .before .before .before .before .before .pre .1 .0 .1) (c .before .before .before .before .before .before .before .before .before .before .before .before .before .before .pre .1 .1 .0) (c .before .before .before .before .before .before .before .before .before .before .before .before .before .before .pre .1 .1 .1) (sym (c .before .before .before .before .before .before .before .before .before .on-inactive .ensures) ∙ c .before .before .before .before .before .before .before .before .if1 .left) (sym (c .before .before .before .before .before .before .on-active .ensures) ∙ c .before .before .before .before .before .if2 .left) _ (c .before .before .before .before .before .before .before .before .before .before .before .slots .ensures .0) (c .before .before .before .before .if3 .left)) (c .before .before .wait-for2 .ensures)
 
 pub register-new-spec : {M : Type 1} → statement M
 register-new-spec =
-    tie.close
-    (tie.spec
-    slots-requires
-    on-inactive-requires
-    wait-for-requires
-    same-length
-    returns
-    on-active-requires
-    join-requires
-    same-length-2
-    returns-2
-    same-length-3
-    returns-3
-    sub-wait-for
-    wait-for-requires-2
-    same-length-4
+    tie.close (tie.spec (λ c κs. search needs) (λ c κs. search needs) (λ c κs. search needs) (λ c. search needs) returns (λ c κs. search needs)
+    (λ c κs. search needs) (λ c. search needs) returns-2 (λ c. search needs) returns-3 (λ c. search needs) wait-for-requires-2 (λ c. search needs)
     returns-4)

@@ -17,7 +17,7 @@ use Rattle.state.proofs.Tests.{not-both, false-of, and-l, and-r}
 use Rattle.state.proofs.Calls.{Ends, not-whole, refused, laid-out, means-of}
 use Rattle.multi_cycle_list.specs.Nodes.{classes, entries, next, prev, wholeB, listOf, listsOf, read}
 use Rattle.multi_cycle_list.specs.Lists.{Lists, Valid, without, removed, pushedFront, pushedBack, withRows, without-entry, movedFront, movedBack, empty, row, first, last}
-use Rattle.multi_class_queue.specs.Inner.{refusal}
+use Rattle.multi_class_queue.specs.Inner.{refusal, moveRefusal}
 use Rattle.multi_class_queue.specs.Calls.{inSize, named, isNone, says, which, front, back, isEmpty, isFront, isBack, remove, moveFront, moveBack, opening}
 use Rattle.multi_cycle_list.specs.Laid.{laid}
 use Rattle.multi_class_queue.specs.Calls.{over, on, bytes, Call, Front, Back, IsEmpty, IsFront, IsBack, Remove, MoveFront, MoveBack, step, Sized, ListsMean}
@@ -166,14 +166,54 @@ none-refused false p q = absurd (omega arith)
 pub accepted : (s : List ℕ) (i x r : ℕ) → r ≡ refusal s i x → r ≡ 0 → (wholeB s ≡ true) × (x < getD s i 0)
 accepted s i x r q z = let a = none-refused (wholeB s) (ltb x (getD s i 0)) (sym q ∙ z) in (a .0, ltb-true x (getD s i 0) (a .1))
 
-module _ (s : List ℕ) (i x : ℕ) (f : Lists → Result Answer Lists) (out : getD s i 0 ≤ x → f (read s) ≡ refuse (Refused 13)) where
-  turned : (w p : Bool) → wholeB s ≡ w → ltb x (getD s i 0) ≡ p → number w p ≢ 0 → Ends over s (on f s) (Refused (number w p)) s
+module _ (s : List ℕ) (t : Bool) (f : Lists → Result Answer Lists) (out : t ≡ false → f (read s) ≡ refuse (Refused 13)) where
+  turned : (w p : Bool) → wholeB s ≡ w → t ≡ p → number w p ≢ 0 → Ends over s (on f s) (Refused (number w p)) s
   turned true true h q n = absurd (n refl)
-  turned true false h q n = past s h f (out (ltb-false x (getD s i 0) q))
+  turned true false h q n = past s h f (out q)
   turned false p h q n = unwhole f s h
 
+  turned-by : (r : ℕ) → r ≡ number (wholeB s) t → r ≢ 0 → Ends over s (on f s) (Refused r) s
+  turned-by r q n = rw q (turned (wholeB s) t refl refl (λ z. n (q ∙ z)))
+
+module _ (s : List ℕ) (i x : ℕ) (f : Lists → Result Answer Lists) (out : getD s i 0 ≤ x → f (read s) ≡ refuse (Refused 13)) where
   pub turned-away : (r : ℕ) → r ≡ refusal s i x → r ≢ 0 → Ends over s (on f s) (Refused r) s
-  turned-away r q n = rw q (turned (wholeB s) (ltb x (getD s i 0)) refl refl (λ z. n (q ∙ z)))
+  turned-away = turned-by s (ltb x (getD s i 0)) f (λ z. out (ltb-false x (getD s i 0) z))
+
+-- ---- moves: a class and an entry in the sizes
+
+class-refused : (w p t : Bool) → number w p ≢ 0 → number w p ≡ number w (p && t)
+class-refused true true t n = absurd (n refl)
+class-refused true false t n = refl
+class-refused false p t n = refl
+
+module _ (s : List ℕ) (c e : ℕ) where
+  pub move-class : (r : ℕ) → r ≡ refusal s 0 c → r ≢ 0 → r ≡ moveRefusal s c e
+  move-class r q n = q ∙ class-refused (wholeB s) (ltb c (classes s)) (ltb e (entries s)) (λ z. n (q ∙ z))
+
+  module _ (a : (wholeB s ≡ true) × (c < classes s)) where
+    pub move-past : entries s ≤ e → 13 ≡ moveRefusal s c e
+    move-past h = rw (a .0, lt-ltb c (classes s) (a .1), le-ltb e (entries s) h)
+
+    pub move-not : e < entries s → 0 ≡ moveRefusal s c e
+    move-not h = rw (a .0, lt-ltb c (classes s) (a .1), lt-ltb e (entries s) h)
+
+  module _ (r : ℕ) (q : r ≡ moveRefusal s c e) where
+    pub move-accepted : r ≡ 0 → (wholeB s ≡ true) × (c < classes s) × (e < entries s)
+    move-accepted z =
+        let p = ltb c (classes s) in
+        let t = ltb e (entries s) in
+        let a = none-refused (wholeB s) (p && t) (sym q ∙ z) in
+        (a .0, ltb-true c (classes s) (and-l p t (a .1)), ltb-true e (entries s) (and-r p t (a .1)))
+
+    -- a call f that leaves m
+    module _ (f : Lists → Result Answer Lists) (m : Lists) (is : f (read s) ≡ inSize (ltb c (length (listsOf s)) && ltb e (entries s)) (done Done m)) where
+      pub move-turned : r ≢ 0 → Ends over s (on f s) (Refused r) s
+      move-turned = turned-by s (ltb c (classes s) && ltb e (entries s)) f (λ z. is ∙ rw (rows-length s, z)) r q
+
+      pub move-changed : r ≡ 0 → (t : List ℕ) → t ≡ laid m → Ends over s (on f s) Done t
+      move-changed z t l =
+          let a = move-accepted z in
+          changed s (a .0) f m t (is ∙ rw (rows-length s, lt-ltb c (classes s) (a .1), lt-ltb e (entries s) (a .2))) l
 
 module _ (s : List ℕ) (c : ℕ) (hc : c < classes s) where
   class-in : ltb c (length (listsOf s)) ≡ true
@@ -191,15 +231,6 @@ module _ (s : List ℕ) (c : ℕ) (hc : c < classes s) where
   unfolding isEmpty
   empty-at = rw class-in
 
-  module _ (e : ℕ) (he : e < entries s) where
-    pub move-front-at : moveFront c e (read s) ≡ done Done (movedFront c e (read s))
-    unfolding moveFront
-    move-front-at = rw (class-in, lt-ltb e (entries s) he)
-
-    pub move-back-at : moveBack c e (read s) ≡ done Done (movedBack c e (read s))
-    unfolding moveBack
-    move-back-at = rw (class-in, lt-ltb e (entries s) he)
-
 module _ (s : List ℕ) (c : ℕ) (hc : classes s ≤ c) where
   class-out : ltb c (length (listsOf s)) ≡ false
   class-out = rw (rows-length s) (le-ltb c (classes s) hc)
@@ -215,14 +246,6 @@ module _ (s : List ℕ) (c : ℕ) (hc : classes s ≤ c) where
   pub empty-out : isEmpty c (read s) ≡ refuse (Refused 13)
   unfolding isEmpty
   empty-out = rw class-out
-
-  pub move-front-class : (e : ℕ) → moveFront c e (read s) ≡ refuse (Refused 13)
-  unfolding moveFront
-  move-front-class e = rw class-out
-
-  pub move-back-class : (e : ℕ) → moveBack c e (read s) ≡ refuse (Refused 13)
-  unfolding moveBack
-  move-back-class e = rw class-out
 
 module _ (s : List ℕ) (e : ℕ) (he : e < entries s) where
   pub is-front-at : isFront e (read s) ≡ done (which (λ r. says e (first r)) 0 (listsOf s)) (read s)
@@ -249,14 +272,6 @@ module _ (s : List ℕ) (e : ℕ) (he : entries s ≤ e) where
   pub remove-out : remove e (read s) ≡ refuse (Refused 13)
   unfolding remove
   remove-out = rw (le-ltb e (entries s) he)
-
-  pub move-front-entry : (c : ℕ) → moveFront c e (read s) ≡ refuse (Refused 13)
-  unfolding moveFront
-  move-front-entry c = rw (le-ltb e (entries s) he, and-false)
-
-  pub move-back-entry : (c : ℕ) → moveBack c e (read s) ≡ refuse (Refused 13)
-  unfolding moveBack
-  move-back-entry c = rw (le-ltb e (entries s) he, and-false)
 
 -- ---- opening
 

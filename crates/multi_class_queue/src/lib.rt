@@ -11,7 +11,7 @@ ghost use mathlib.Core.Path.{_≡_};
 ghost use Prim.Native.Nat.{_<_};
 ghost use lib.ListN.{length};
 ghost use Rattle.state.specs.Result.{answer};
-ghost use Rattle.multi_class_queue.specs.Inner.{refusal};
+ghost use Rattle.multi_class_queue.specs.Inner.{refusal, moveRefusal};
 ghost use Rattle.multi_class_queue.specs.Calls.{named, on, bytes, opening, front, back, isEmpty, isFront, isBack, remove, moveFront, moveBack, ListsMean};
 
 // An answer of a call. `Is` has the entry, or the class, asked for; `Holds`, whether the class is empty.
@@ -52,6 +52,20 @@ fn refusal(s: &[u8], at: usize, x: u32) -> u8
         return 1;
     }
     if s[at] as u32 <= x {
+        return 13;
+    }
+    0
+}
+
+// The same for a class and an entry.
+fn move_refusal(s: &[u8], class: u32, entry: u32) -> u8
+    ensures { λ r. ⌜ r ≡ moveRefusal (now (s .entry)) class entry ⌝ }
+{
+    let n = refusal(s, 0, class);
+    if n != 0 {
+        return n;
+    }
+    if s[1] as u32 <= entry {
         return 13;
     }
     0
@@ -140,12 +154,9 @@ pub fn remove(s: &mut [u8], entry: u32) -> Answer
 pub fn move_front(s: &mut [u8], class: u32, entry: u32) -> Answer
     ensures { λ r. ⌜ (r ≡ answer (on (moveFront class entry) (now (s .entry)))) × (now (s .exit) ≡ bytes (now (s .entry)) (on (moveFront class entry) (now (s .entry)))) ⌝ }
 {
-    let n = refusal(s, 0, class);
+    let n = move_refusal(s, class, entry);
     if n != 0 {
         return Answer::Refused(n);
-    }
-    if s[1] as u32 <= entry {
-        return Answer::Refused(13);
     }
     inner_move_front(s, class as usize, entry as usize);
     Answer::Done
@@ -154,12 +165,9 @@ pub fn move_front(s: &mut [u8], class: u32, entry: u32) -> Answer
 pub fn move_back(s: &mut [u8], class: u32, entry: u32) -> Answer
     ensures { λ r. ⌜ (r ≡ answer (on (moveBack class entry) (now (s .entry)))) × (now (s .exit) ≡ bytes (now (s .entry)) (on (moveBack class entry) (now (s .entry)))) ⌝ }
 {
-    let n = refusal(s, 0, class);
+    let n = move_refusal(s, class, entry);
     if n != 0 {
         return Answer::Refused(n);
-    }
-    if s[1] as u32 <= entry {
-        return Answer::Refused(13);
     }
     inner_move_back(s, class as usize, entry as usize);
     Answer::Done

@@ -23,7 +23,7 @@ abbrev pub tells : List ℕ → Told → Told
 tells b (Counter n) = Counter ((read b) .slots)
 tells b (Head x e) = Head x (firstOn x ((read b) .active))
 
--- a state's length, calls on it, and what is wanted: their answers, and what the bytes that they leave tell
+-- a state's length, calls on it, and what is expected: their answers, and what the bytes that they leave tell
 pub record Row : Type 0 where
   pub length : ℕ
   pub calls : List Call
@@ -40,8 +40,8 @@ found r = record {
   told = map (tells (left (r .calls) (replicate (r .length) 0))) (r .told);
 }
 
-abbrev pub wanted : Row → Seen
-wanted r = record { answers = r .answers; told = r .told }
+abbrev pub expected : Row → Seen
+expected r = record { answers = r .answers; told = r .told }
 
 -- ---- answers
 
@@ -212,4 +212,4 @@ table =
     ∷ loopBackWalk ∷ lastFrameOfMessage ∷ lastFrameOfResponse ∷ nextFrameOfMessage ∷ nextFrameOfResponse ∷ keyTwice ∷ []
 
 pub record Cases : Type 0 where
-  pub all : map found table ≡ map wanted table
+  pub all : map found table ≡ map expected table

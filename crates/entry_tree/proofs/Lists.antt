@@ -5,8 +5,7 @@ use mathlib.Core.List.{List, [], _∷_}
 use mathlib.Core.Bool.{Bool, true, false, cond}
 use native.Mathlib.Omega.{arith}
 use native.Mathlib.Nat.{not-suc-le-zero}
-use lib.ListN.{length, getD, drop, drop-of-length-le}
-use lib.Seq.{drop-cons}
+use lib.ListN.{length, getD, drop}
 use lib.Dec.{ltb, leb·suc-suc}
 use borrow.Author.Tests.{lt-ltb}
 use Rattle.state.specs.Seq.{toNat}
@@ -104,12 +103,6 @@ module _ (e : ℕ) (l : List Pair) (i : ℕ) (q : position (isEntry e) l ≡ i) 
 
   pub place-rest : placeOf e l .rest ≡ drop (suc i) l
   place-rest = at .rest-at
-
-  pub place-rest-next : suc i < length l → placeOf e l .rest ≡ getD l (suc i) none ∷ drop (suc (suc i)) l
-  place-rest-next b = at .rest-at ∙ drop-cons l (suc i) none b
-
-  pub place-rest-end : length l ≤ suc i → placeOf e l .rest ≡ []
-  place-rest-end b = at .rest-at ∙ drop-of-length-le l {i = suc i} b
 
 pub from-first : (x : ℕ) (l : List Pair) (i : ℕ) → i ≡ 0 → fromAt x i l ≡ x
 from-first x l i q = ap (λ (j : ℕ). fromAt x j l) q

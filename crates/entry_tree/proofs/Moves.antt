@@ -10,7 +10,7 @@ use lib.Seq.{getD-set-same, getD-set-other}
 use Rattle.state.specs.Result.{Bytes}
 use Rattle.entry_tree.specs.Pairs.{Pair, pair, inserted, inOrder}
 use Rattle.entry_tree.specs.Places.{size, subjectAt, read, laid}
-use Rattle.entry_tree.specs.Inner.{treeLength, cellAt, cellOf, setCell, Between, Forth, Back, removedAt}
+use Rattle.entry_tree.specs.Inner.{treeLength, cellAt, cellOf, setCell, Between, RoomMade, ClosedUp, removedAt}
 use Rattle.entry_tree.proofs.Lists.{none}
 use Rattle.entry_tree.proofs.Reading.{read-length, read-at}
 use Rattle.entry_tree.proofs.Changes.{order-at, inserted-length, inserted-at, Joined, removed-length, removed-before, removed-after}
@@ -38,11 +38,11 @@ module _ (t : List ℕ) (x : ℕ) where
 
 -- ---- making room
 
-pub forth-none : (t : List ℕ) (e : ℕ) → Forth t t e e
-forth-none t e = record { len = refl; before = λ j h. refl; moved = λ j h g. absurd (omega arith); after = λ j h. refl }
+pub room-none : (t : List ℕ) (e : ℕ) → RoomMade t t e e
+room-none t e = record { len = refl; before = λ j h. refl; moved = λ j h g. absurd (omega arith); after = λ j h. refl }
 
-pub forth-more : (t u : List ℕ) (m e : ℕ) → Forth t u m e → (k : ℕ) → k + 1 ≡ m → m ≤ e → e + 3 ≤ length t → Forth t (set u (k + 3) (getD u k 0)) k e
-forth-more t u m e h k q b f =
+pub room-more : (t u : List ℕ) (m e : ℕ) → RoomMade t u m e → (k : ℕ) → k + 1 ≡ m → m ≤ e → e + 3 ≤ length t → RoomMade t (set u (k + 3) (getD u k 0)) k e
+room-more t u m e h k q b f =
     let v = getD u k 0 in
     record {
       len = length-set u (k + 3) v ∙ h .len;
@@ -55,15 +55,15 @@ forth-more t u m e h k q b f =
       after = λ j a. getD-set-other u (k + 3) j v 0 (omega arith) ∙ h .after j a;
     }
 
-pub forth-end : (t u : List ℕ) (k m : ℕ) → Forth t u k m → (i : ℕ) → k ≡ 1 + 3 * i → m ≡ 1 + 3 * size t → Forth t u (1 + 3 * i) (1 + 3 * size t)
-forth-end t u k m h i p q = subst (λ (k : ℕ). Forth t u k (1 + 3 * size t)) p (subst (λ (m : ℕ). Forth t u k m) q h)
+pub room-end : (t u : List ℕ) (k m : ℕ) → RoomMade t u k m → (i : ℕ) → k ≡ 1 + 3 * i → m ≡ 1 + 3 * size t → RoomMade t u (1 + 3 * i) (1 + 3 * size t)
+room-end t u k m h i p q = subst (λ (k : ℕ). RoomMade t u k (1 + 3 * size t)) p (subst (λ (m : ℕ). RoomMade t u k m) q h)
 
-module _ (t u : List ℕ) (r : ℕ) (h : Forth t u (1 + 3 * r) (1 + 3 * size t)) where
-  forth-before : (k : ℕ) → k < r → cellAt u k ≡ cellAt t k
-  forth-before k b = cell-same (cellAt u k) (cellAt t k) (h .before (1 + 3 * k) (omega arith)) (h .before (2 + 3 * k) (omega arith)) (h .before (3 + 3 * k) (omega arith))
+module _ (t u : List ℕ) (r : ℕ) (h : RoomMade t u (1 + 3 * r) (1 + 3 * size t)) where
+  room-before : (k : ℕ) → k < r → cellAt u k ≡ cellAt t k
+  room-before k b = cell-same (cellAt u k) (cellAt t k) (h .before (1 + 3 * k) (omega arith)) (h .before (2 + 3 * k) (omega arith)) (h .before (3 + 3 * k) (omega arith))
 
-  forth-moved : (k : ℕ) → r ≤ k → k < size t → cellAt u (suc k) ≡ cellAt t k
-  forth-moved k a b =
+  room-moved : (k : ℕ) → r ≤ k → k < size t → cellAt u (suc k) ≡ cellAt t k
+  room-moved k a b =
       let q1 : 1 + 3 * suc k ≡ 1 + 3 * k + 3 = omega arith in
       let q2 : 2 + 3 * suc k ≡ 2 + 3 * k + 3 = omega arith in
       let q3 : 3 + 3 * suc k ≡ 3 + 3 * k + 3 = omega arith in
@@ -72,11 +72,11 @@ module _ (t u : List ℕ) (r : ℕ) (h : Forth t u (1 + 3 * r) (1 + 3 * size t))
       (ap (λ (j : ℕ). getD u j 0) q2 ∙ h .moved (2 + 3 * k) (omega arith) (omega arith))
       (ap (λ (j : ℕ). getD u j 0) q3 ∙ h .moved (3 + 3 * k) (omega arith) (omega arith))
 
-  forth-after : (k : ℕ) → size t < k → cellAt u k ≡ cellAt t k
-  forth-after k b = cell-same (cellAt u k) (cellAt t k) (h .after (1 + 3 * k) (omega arith)) (h .after (2 + 3 * k) (omega arith)) (h .after (3 + 3 * k) (omega arith))
+  room-after : (k : ℕ) → size t < k → cellAt u k ≡ cellAt t k
+  room-after k b = cell-same (cellAt u k) (cellAt t k) (h .after (1 + 3 * k) (omega arith)) (h .after (2 + 3 * k) (omega arith)) (h .after (3 + 3 * k) (omega arith))
 
 module _ (t : List ℕ) (y : Bytes t) (len : length t ≡ treeLength) (few : size t < 128) (order : inOrder 0 (read t) ≡ true)
-    (e x r : ℕ) (m : Between t x r r) (u : List ℕ) (h : Forth t u (1 + 3 * r) (1 + 3 * size t))
+    (e x r : ℕ) (m : Between t x r r) (u : List ℕ) (h : RoomMade t u (1 + 3 * r) (1 + 3 * size t))
   where
     joined : Joined (pair e x) (read t) (inserted (pair e x) (read t)) r
     joined =
@@ -90,8 +90,8 @@ module _ (t : List ℕ) (y : Bytes t) (len : length t ≡ treeLength) (few : siz
         let z : getD (read t) r none .subject ≡ subjectAt t r = ap (λ (p : Pair). p .subject) (read-at t r b) in
         omega (arith, m .above b))
 
-    pub forth-laid : (n : ℕ) → n ≡ size t + 1 → (v : List ℕ) → v ≡ setCell u r (cellOf (pair e x)) → set v 0 n ≡ laid (inserted (pair e x) (read t)) t
-    forth-laid n nq v vq =
+    pub room-laid : (n : ℕ) → n ≡ size t + 1 → (v : List ℕ) → v ≡ setCell u r (cellOf (pair e x)) → set v 0 n ≡ laid (inserted (pair e x) (read t)) t
+    room-laid n nq v vq =
         let p = pair e x in
         let k = inserted p (read t) in
         let c = cellOf p in
@@ -107,7 +107,7 @@ module _ (t : List ℕ) (y : Bytes t) (len : length t ≡ treeLength) (few : siz
           held = λ i a.
               number-cell w n i
               ∙ elim (decLt i r) [
-                | yes q ↦ set-other u r c i (omega arith) ∙ forth-before t u r h i q ∙ at-read t y i (omega (arith, m .most)) (getD k i none) (g .before i q)
+                | yes q ↦ set-other u r c i (omega arith) ∙ room-before t u r h i q ∙ at-read t y i (omega (arith, m .most)) (getD k i none) (g .before i q)
                 | no q ↦ elim (ℕ-discrete i r) [
                   | yes z ↦ ap (cellAt w) z ∙ set-same u r c (h .len ∙ len) (omega (arith, m .most)) ∙ ap cellOf (sym (g .here) ∙ ap (λ (j : ℕ). getD k j none) (sym z))
                   | no z ↦
@@ -116,22 +116,22 @@ module _ (t : List ℕ) (y : Bytes t) (len : length t ≡ treeLength) (few : siz
                       let b : j < size t = omega arith in
                       set-other u r c i z
                       ∙ ap (cellAt u) s1
-                      ∙ forth-moved t u r h j (omega arith) b
+                      ∙ room-moved t u r h j (omega arith) b
                       ∙ at-read t y j b (getD k i none) (ap (λ (j : ℕ). getD k j none) s1 ∙ g .after j (omega arith))
                 ]
               ];
           left = λ i a b. absurd (omega arith);
-          rest = λ i a b. number-cell w n i ∙ set-other u r c i (omega (arith, m .most)) ∙ forth-after t u r h i (omega arith);
+          rest = λ i a b. number-cell w n i ∙ set-other u r c i (omega (arith, m .most)) ∙ room-after t u r h i (omega arith);
         })
         (laid-has k t len (omega arith))
 
 -- ---- closing up
 
-pub back-none : (t : List ℕ) (a : ℕ) → Back t t a a
-back-none t a = record { len = refl; before = λ j h. refl; moved = λ j h g. absurd (omega arith); after = λ j h. refl }
+pub closed-none : (t : List ℕ) (a : ℕ) → ClosedUp t t a a
+closed-none t a = record { len = refl; before = λ j h. refl; moved = λ j h g. absurd (omega arith); after = λ j h. refl }
 
-pub back-more : (t u : List ℕ) (a k : ℕ) → Back t u a k → a ≤ k → k < length t → Back t (set u k (getD u (k + 3) 0)) a (k + 1)
-back-more t u a k h b f =
+pub closed-more : (t u : List ℕ) (a k : ℕ) → ClosedUp t u a k → a ≤ k → k < length t → ClosedUp t (set u k (getD u (k + 3) 0)) a (k + 1)
+closed-more t u a k h b f =
     let v = getD u (k + 3) 0 in
     record {
       len = length-set u k v ∙ h .len;
@@ -144,15 +144,15 @@ back-more t u a k h b f =
       after = λ j c. getD-set-other u k j v 0 (omega arith) ∙ h .after j (omega arith);
     }
 
-pub back-end : (t u : List ℕ) (a k : ℕ) → Back t u a k → (e : ℕ) → k ≡ e → Back t u a e
-back-end t u a k h e q = subst (λ (k : ℕ). Back t u a k) q h
+pub closed-end : (t u : List ℕ) (a k : ℕ) → ClosedUp t u a k → (e : ℕ) → k ≡ e → ClosedUp t u a e
+closed-end t u a k h e q = subst (λ (k : ℕ). ClosedUp t u a k) q h
 
-module _ (t u : List ℕ) (i n : ℕ) (h : Back t u (1 + 3 * i) (3 * n - 2)) where
-  back-before : (k : ℕ) → k < i → cellAt u k ≡ cellAt t k
-  back-before k b = cell-same (cellAt u k) (cellAt t k) (h .before (1 + 3 * k) (omega arith)) (h .before (2 + 3 * k) (omega arith)) (h .before (3 + 3 * k) (omega arith))
+module _ (t u : List ℕ) (i n : ℕ) (h : ClosedUp t u (1 + 3 * i) (3 * n - 2)) where
+  closed-before : (k : ℕ) → k < i → cellAt u k ≡ cellAt t k
+  closed-before k b = cell-same (cellAt u k) (cellAt t k) (h .before (1 + 3 * k) (omega arith)) (h .before (2 + 3 * k) (omega arith)) (h .before (3 + 3 * k) (omega arith))
 
-  back-moved : (k : ℕ) → i ≤ k → suc k < n → cellAt u k ≡ cellAt t (suc k)
-  back-moved k a b =
+  closed-moved : (k : ℕ) → i ≤ k → suc k < n → cellAt u k ≡ cellAt t (suc k)
+  closed-moved k a b =
       let q1 : 1 + 3 * k + 3 ≡ 1 + 3 * suc k = omega arith in
       let q2 : 2 + 3 * k + 3 ≡ 2 + 3 * suc k = omega arith in
       let q3 : 3 + 3 * k + 3 ≡ 3 + 3 * suc k = omega arith in
@@ -161,12 +161,12 @@ module _ (t u : List ℕ) (i n : ℕ) (h : Back t u (1 + 3 * i) (3 * n - 2)) whe
       (h .moved (2 + 3 * k) (omega arith) (omega arith) ∙ ap (λ (j : ℕ). getD t j 0) q2)
       (h .moved (3 + 3 * k) (omega arith) (omega arith) ∙ ap (λ (j : ℕ). getD t j 0) q3)
 
-  back-after : (k : ℕ) → n ≤ suc k → cellAt u k ≡ cellAt t k
-  back-after k b = cell-same (cellAt u k) (cellAt t k) (h .after (1 + 3 * k) (omega arith)) (h .after (2 + 3 * k) (omega arith)) (h .after (3 + 3 * k) (omega arith))
+  closed-after : (k : ℕ) → n ≤ suc k → cellAt u k ≡ cellAt t k
+  closed-after k b = cell-same (cellAt u k) (cellAt t k) (h .after (1 + 3 * k) (omega arith)) (h .after (2 + 3 * k) (omega arith)) (h .after (3 + 3 * k) (omega arith))
 
-pub back-laid : (t : List ℕ) → Bytes t → length t ≡ treeLength → size t ≤ 128 → (i : ℕ) → i < size t → (n : ℕ) → n ≡ size t - 1 → (u : List ℕ) → Back t u (1 + 3 * i) (3 * size t - 2) → (v : List ℕ) → v ≡ setCell u n freed
+pub closed-laid : (t : List ℕ) → Bytes t → length t ≡ treeLength → size t ≤ 128 → (i : ℕ) → i < size t → (n : ℕ) → n ≡ size t - 1 → (u : List ℕ) → ClosedUp t u (1 + 3 * i) (3 * size t - 2) → (v : List ℕ) → v ≡ setCell u n freed
     → set v 0 n ≡ laid (removedAt i (read t)) t
-back-laid t y len few i hi n nq u h v vq =
+closed-laid t y len few i hi n nq u h v vq =
     let k = removedAt i (read t) in
     let w = setCell u n freed in
     let lk : suc (length k) ≡ size t = removed-length i (read t) (omega (arith, read-length t)) ∙ read-length t in
@@ -180,12 +180,12 @@ back-laid t y len few i hi n nq u h v vq =
           number-cell w n j
           ∙ set-other u n freed j (omega arith)
           ∙ elim (decLt j i) [
-            | yes q ↦ back-before t u i (size t) h j q ∙ at-read t y j (omega arith) (getD k j none) (removed-before i (read t) j q)
-            | no q ↦ back-moved t u i (size t) h j (omega arith) (omega arith) ∙ at-read t y (suc j) (omega arith) (getD k j none) (removed-after i (read t) j (omega arith))
+            | yes q ↦ closed-before t u i (size t) h j q ∙ at-read t y j (omega arith) (getD k j none) (removed-before i (read t) j q)
+            | no q ↦ closed-moved t u i (size t) h j (omega arith) (omega arith) ∙ at-read t y (suc j) (omega arith) (getD k j none) (removed-after i (read t) j (omega arith))
           ];
       left = λ j a b.
           let z : j ≡ n = omega arith in
           number-cell w n j ∙ ap (cellAt w) z ∙ set-same u n freed (h .len ∙ len) (omega arith);
-      rest = λ j a b. number-cell w n j ∙ set-other u n freed j (omega arith) ∙ back-after t u i (size t) h j (omega arith);
+      rest = λ j a b. number-cell w n j ∙ set-other u n freed j (omega arith) ∙ closed-after t u i (size t) h j (omega arith);
     })
     (laid-has k t len (omega arith))

@@ -2,10 +2,10 @@
 use Prim.Native.Nat.{ℕ, suc, _+_, _-_, _*_, _<_, _≤_}
 use mathlib.Core.Path.{_≡_, sym, ap, _∙_}
 use mathlib.Core.Logic.{_≢_}
-use mathlib.Core.List.{List, [], _∷_}
+use mathlib.Core.List.{List, _∷_}
 use mathlib.Core.Bool.{Bool, true, false}
 use native.Mathlib.Omega.{arith}
-use lib.ListN.{length, getD, drop}
+use lib.ListN.{length, getD}
 use lib.Dec.{eqb, ltb}
 use borrow.Author.Tests.{eq-eqb, ne-eqb, eqb-true}
 use mir.Val.{Fits}
@@ -15,13 +15,10 @@ use Rattle.state.proofs.Seq.{length-each, getD-each}
 use Rattle.entry_tree.specs.Pairs.{Pair, any, isEntry, placeOf, past}
 use Rattle.entry_tree.specs.Places.{size, entryAt, subjectAt, pairAt, read}
 use Rattle.entry_tree.specs.Inner.{position}
-use Rattle.entry_tree.proofs.Lists.{none, any-position, position-true, position-at, position-none, place-subject, place-from, place-rest-next, place-rest-end, from-first, from-next, past-none, past-last}
+use Rattle.entry_tree.proofs.Lists.{none, any-position, position-true, position-at, position-none, place-subject, place-from, from-first, from-next}
 
 pub bytes-of : (s : List ℕ) → ((i : ℕ) → Fits w8 (getD s i 0)) → Bytes s
 bytes-of s g i = omega (arith, g i)
-
-pub subject-fits : (t : List ℕ) → Bytes t → (i : ℕ) → subjectAt t i < 65536
-subject-fits t y i = omega (arith, y (2 + 3 * i), y (3 + 3 * i))
 
 pub read-length : (t : List ℕ) → length (read t) ≡ size t
 unfolding read
@@ -76,19 +73,3 @@ module _ (t : List ℕ) (e i : ℕ) (q : i ≡ position (isEntry e) (read t)) (h
 
   pub read-place-from : 0 < i → placeOf e (read t) .from ≡ suc (subjectAt t (i - 1))
   read-place-from z = place-from e (read t) i (sym q) within ∙ from-next 0 (read t) i z ∙ ap suc (read-subject t (i - 1) (omega arith))
-
-  pub read-place-rest : suc i < size t → placeOf e (read t) .rest ≡ pairAt t (suc i) ∷ drop (suc (suc i)) (read t)
-  read-place-rest z =
-      place-rest-next e (read t) i (sym q) within (omega (arith, read-length t)) ∙ ap (λ (p : Pair). p ∷ drop (suc (suc i)) (read t)) (read-at t (suc i) z)
-
-  pub read-place-end : size t ≤ suc i → placeOf e (read t) .rest ≡ []
-  read-place-end z = place-rest-end e (read t) i (sym q) within (omega (arith, read-length t))
-
-pub read-past-none : (t : List ℕ) → size t ≡ 0 → past 0 (read t) ≡ 0
-read-past-none t h = past-none 0 (read t) (read-length t ∙ h)
-
-pub read-past-last : (t : List ℕ) → 0 < size t → past 0 (read t) ≡ suc (subjectAt t (size t - 1))
-read-past-last t h =
-    past-last 0 (read t) (omega (arith, read-length t))
-    ∙ ap (λ (n : ℕ). suc (getD (read t) (n - 1) none .subject)) (read-length t)
-    ∙ ap suc (read-subject t (size t - 1) (omega arith))

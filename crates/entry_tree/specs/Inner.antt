@@ -48,14 +48,14 @@ pub record Between (t : List ℕ) (x low high : ℕ) : Type 0 where
   pub above : high < size t → x < subjectAt t high
 
 -- the bytes of t from a to e stand one place, three bytes, further in u
-pub record Forth (t u : List ℕ) (a e : ℕ) : Type 0 where
+pub record RoomMade (t u : List ℕ) (a e : ℕ) : Type 0 where
   pub len : length u ≡ length t
   pub before : (j : ℕ) → j < a + 3 → getD u j 0 ≡ getD t j 0
   pub moved : (j : ℕ) → a ≤ j → j < e → getD u (j + 3) 0 ≡ getD t j 0
   pub after : (j : ℕ) → e + 3 ≤ j → getD u j 0 ≡ getD t j 0
 
 -- the bytes of u from a to e stand one place further in t
-pub record Back (t u : List ℕ) (a e : ℕ) : Type 0 where
+pub record ClosedUp (t u : List ℕ) (a e : ℕ) : Type 0 where
   pub len : length u ≡ length t
   pub before : (j : ℕ) → j < a → getD u j 0 ≡ getD t j 0
   pub moved : (j : ℕ) → a ≤ j → j < e → getD u j 0 ≡ getD t (j + 3) 0

@@ -9,7 +9,7 @@ ghost use lib.ListN.{length};
 ghost use Rattle.entry_tree.specs.Pairs.{pair, isEntry, onSubject, hasEntry, hasSubject, inserted, inOrder};
 ghost use Rattle.entry_tree.specs.Places.{size, entryAt, subjectAt, read, laid};
 ghost use Rattle.entry_tree.specs.Inner as inner;
-ghost use Rattle.entry_tree.specs.Inner.{treeLength, cellOf, setCell, Between, Forth, Back, removedAt};
+ghost use Rattle.entry_tree.specs.Inner.{treeLength, cellOf, setCell, Between, RoomMade, ClosedUp, removedAt};
 
 // ---- looking
 
@@ -114,7 +114,7 @@ fn upper_bound(t: &[u8], subject: u16) -> usize
 // Moves each pair from the place `i` on one place on.
 fn make_room(t: &mut [u8], i: usize)
     requires { ⌜ (length (now t) ≡ treeLength) × ((size (now t) < 128) × (i ≤ size (now t))) ⌝ }
-    ensures { λ _. ⌜ Forth (now (t .entry)) (now (t .exit)) (1 + 3 * i) (1 + 3 * size (now (t .entry))) ⌝ }
+    ensures { λ _. ⌜ RoomMade (now (t .entry)) (now (t .exit)) (1 + 3 * i) (1 + 3 * size (now (t .entry))) ⌝ }
 {
     let start = 1 + 3 * i;
     let mut k = 1 + 3 * len(t);
@@ -139,7 +139,7 @@ pub fn insert(t: &mut [u8], entry: u8, subject: u16)
 // Moves each pair after the place `i` one place back.
 fn close_up(t: &mut [u8], i: usize)
     requires { ⌜ (length (now t) ≡ treeLength) × ((size (now t) ≤ 128) × (i < size (now t))) ⌝ }
-    ensures { λ _. ⌜ Back (now (t .entry)) (now (t .exit)) (1 + 3 * i) (3 * size (now (t .entry)) - 2) ⌝ }
+    ensures { λ _. ⌜ ClosedUp (now (t .entry)) (now (t .exit)) (1 + 3 * i) (3 * size (now (t .entry)) - 2) ⌝ }
 {
     let end = 3 * len(t) - 2;
     let mut k = 1 + 3 * i;

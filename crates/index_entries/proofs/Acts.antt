@@ -15,7 +15,7 @@ use borrow.Author.Tests.{lt-ltb, le-leb, lt-leb, eq-eqb, eqb-true}
 use Rattle.state.specs.Lengths.{keysLength}
 use Rattle.state.specs.Result.{Bytes}
 use Rattle.state.proofs.Tests.{not-both, false-of}
-use Rattle.multi_cycle_list.specs.Lists.{Lists, Valid, count, row, without, removed, without-entry, movedFront, movedBack}
+use Rattle.multi_cycle_list.specs.Lists.{Lists, Valid, count, row, without, removed, withoutEntry, movedFront, movedBack}
 use Rattle.multi_cycle_list.specs.Nodes as nodes
 use Rattle.multi_cycle_list.specs.Laid as lists
 use Rattle.multi_cycle_list.proofs.Laid as mcl
@@ -62,8 +62,8 @@ module _ (m : Keys) (f : ValidKeys m) (i : ℕ) (h : i < length (m .slots)) wher
   removed-two : length (removed i (m .lists .rows)) ≡ 2
   removed-two = length-map (m .lists .rows) (without i) ∙ f .classes
 
-  pub moves-gone : Moves m i (without-entry i (m .lists)) false
-  moves-gone = gone (without-entry i (m .lists)) removed-two refl (remove-valid (m .lists) (f .valid) i in-lists) (gone-row i (m .lists))
+  pub moves-gone : Moves m i (withoutEntry i (m .lists)) false
+  moves-gone = gone (withoutEntry i (m .lists)) removed-two refl (remove-valid (m .lists) (f .valid) i in-lists) (gone-row i (m .lists))
 
   pub moves-front : Moves m i (movedFront 0 i (m .lists)) false
   moves-front =
@@ -300,12 +300,12 @@ module _ (s : List ℕ) (y : Bytes s) (h : wholeB s ≡ true) (i : ℕ) (hi : i 
 
   -- a free entry takes a key and a value
   pub taken-laid : (k v : ℕ) → isFree (slot (read s) i) ≡ true → k ≤ kMax s → v < 4294967296 → found (read s) k ≡ missing
-      → set (setLong (setWord (withList s (without-entry i (read s .lists))) (8 + 2 * entries s + 2 * i) k) (8 + 4 * entries s + 4 * i) v) (8 + 8 * entries s + k) i
-      ≡ laid (change i (holds k v) (without-entry i (read s .lists)) (read s)) s
+      → set (setLong (setWord (withList s (withoutEntry i (read s .lists))) (8 + 2 * entries s + 2 * i) k) (8 + 4 * entries s + 4 * i) v) (8 + 8 * entries s + k) i
+      ≡ laid (change i (holds k v) (withoutEntry i (read s .lists)) (read s)) s
   unfolding f r
   taken-laid k v b hk hv nk =
       let n = entries s in
-      let l = without-entry i (read s .lists) in
+      let l = withoutEntry i (read s .lists) in
       let x = holds k v in
       let t1 = withList s l in
       let g = moves-gone (read s) r i in-slots in

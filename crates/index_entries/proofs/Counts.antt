@@ -6,7 +6,7 @@ use mathlib.Core.List.{List, [], _∷_, _++_}
 use native.Mathlib.Omega.{arith}
 use lib.ListN.{length, getD, length-map, List·getD-map}
 use lib.Seq.{getD-set-same, getD-set-other}
-use Rattle.multi_cycle_list.specs.Lists.{Lists, count, without, removed, row, without-entry, movedFront, movedBack}
+use Rattle.multi_cycle_list.specs.Lists.{Lists, count, without, removed, row, withoutEntry, movedFront, movedBack}
 use Rattle.multi_cycle_list.proofs.Lists.{count-same, count-other}
 
 pub count-one : (e x : ℕ) → e ≢ x → count e (x ∷ []) ≡ 0
@@ -22,7 +22,7 @@ module _ (e : ℕ) (m : Lists) where
   unfolding without
   removed-row c = List·getD-map (without e) (m .rows) c []
 
-  pub gone-row : row (without-entry e m) 1 ≡ without e (row m 1)
+  pub gone-row : row (withoutEntry e m) 1 ≡ without e (row m 1)
   gone-row = removed-row 1
 
   pub front-row : row (movedFront 0 e m) 1 ≡ without e (row m 1)

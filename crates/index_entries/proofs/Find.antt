@@ -5,7 +5,6 @@ use mathlib.Core.List.{List, [], _∷_}
 use mathlib.Core.Bool.{Bool, true, false, cond}
 use native.Mathlib.Omega.{arith}
 use lib.ListN.{length, getD}
-use borrow.Author.Tests.{eqb-true}
 use Rattle.state.proofs.Tests.{not-both}
 use Rattle.index_entries.specs.Keys.{Slot, free, holds, spent, hasKey, isFree, Found, missing, at, find}
 
@@ -44,12 +43,6 @@ looks k (s ∷ ss) = cases (hasKey k s) refl (looks k ss)
     cases : (b : Bool) → hasKey k s ≡ b → Looks k ss (find k 0 ss) → Looks k (s ∷ ss) (cond b (at 0 s) (find k 1 ss))
     cases true h l = (omega arith, (refl, h))
     cases false h l = rw (find-from k 0 ss) (looks-more k s ss (find k 0 ss) h l)
-
--- a slot has at most one key
-pub one-key : (s : Slot) (j k : ℕ) → hasKey j s ≡ true → hasKey k s ≡ true → j ≡ k
-one-key free j k p q = not-both (sym p)
-one-key (holds x v) j k p q = sym (eqb-true x j p) ∙ eqb-true x k q
-one-key (spent x) j k p q = sym (eqb-true x j p) ∙ eqb-true x k q
 
 pub key-not-free : (k : ℕ) (s : Slot) → hasKey k s ≡ true → isFree s ≡ false
 key-not-free k free h = sym h

@@ -7,11 +7,10 @@ use multi_cycle_list::inner::inner_remove;
 use state::fill;
 ghost use mathlib.Core.Path.{_≡_};
 ghost use mathlib.Core.Bool.{true, false};
-ghost use mathlib.Core.List.{[], _∷_};
 ghost use Prim.Native.Nat.{_+_, _*_, _<_, _≤_};
 ghost use lib.ListN.{length, replicate};
 ghost use Rattle.state.specs.Lengths.{listsLength, keysAllowed, keysLength};
-ghost use Rattle.multi_cycle_list.specs.Lists.{without-entry, movedFront, movedBack, empty};
+ghost use Rattle.multi_cycle_list.specs.Lists.{withoutEntry, movedFront, movedBack, empty};
 ghost use Rattle.multi_cycle_list.specs.Laid as lists;
 ghost use Rattle.index_entries.specs.Keys.{holds, spent, free, missing, slot, found, isFree, withSlot, withLists, changed, fresh, freeFirst};
 ghost use Rattle.index_entries.specs.Bytes.{entries, kMax, keyWord, read, wholeB};
@@ -38,7 +37,7 @@ fn set_long(s: &mut [u8], a: usize, v: u32)
 
 fn list_remove(s: &mut [u8], i: usize)
     requires { ⌜ (wholeB (now s) ≡ true) × (i < entries (now s)) ⌝ }
-    ensures { λ _. ⌜ now (s .exit) ≡ withList (now (s .entry)) (without-entry i (read (now (s .entry)) .lists)) ⌝ }
+    ensures { λ _. ⌜ now (s .exit) ≡ withList (now (s .entry)) (withoutEntry i (read (now (s .entry)) .lists)) ⌝ }
 {
     let e = lists_end(s);
     inner_remove(&mut s[2..e], i);
@@ -83,7 +82,7 @@ pub fn spend(s: &mut [u8], i: usize, key: u16)
 // The free entry `i` takes the new key `key` and the value `v`.
 pub fn take_entry(s: &mut [u8], i: usize, key: u16, v: u32)
     requires { ⌜ (wholeB (now s) ≡ true) × ((i < entries (now s)) × ((isFree (slot (read (now s)) i) ≡ true) × ((key ≤ kMax (now s)) × (found (read (now s)) key ≡ missing)))) ⌝ }
-    ensures { λ _. ⌜ now (s .exit) ≡ laid (changed i (holds key v) (without-entry i (read (now (s .entry)) .lists)) (read (now (s .entry)))) (now (s .entry)) ⌝ }
+    ensures { λ _. ⌜ now (s .exit) ≡ laid (changed i (holds key v) (withoutEntry i (read (now (s .entry)) .lists)) (read (now (s .entry)))) (now (s .entry)) ⌝ }
 {
     let n = s[3] as usize;
     let k = key as usize;
@@ -121,7 +120,7 @@ pub fn queue_back(s: &mut [u8], i: usize)
 
 pub fn unqueue(s: &mut [u8], i: usize)
     requires { ⌜ (wholeB (now s) ≡ true) × ((i < entries (now s)) × (isFree (slot (read (now s)) i) ≡ false)) ⌝ }
-    ensures { λ _. ⌜ now (s .exit) ≡ laid (withLists (without-entry i (read (now (s .entry)) .lists)) (read (now (s .entry)))) (now (s .entry)) ⌝ }
+    ensures { λ _. ⌜ now (s .exit) ≡ laid (withLists (withoutEntry i (read (now (s .entry)) .lists)) (read (now (s .entry)))) (now (s .entry)) ⌝ }
 {
     list_remove(s, i);
 }

@@ -12,7 +12,7 @@ use Rattle.state.specs.Lengths.{keysAllowed, keysLength}
 use Rattle.state.specs.Result.{Result, refuse, done, answer, Bytes}
 use Rattle.state.proofs.Tests.{not-both}
 use Rattle.state.proofs.Calls.{Ends, not-whole, ends, refused, laid-out}
-use Rattle.multi_cycle_list.specs.Lists.{Lists, Valid, count, row, first, last, without-entry, movedFront, movedBack}
+use Rattle.multi_cycle_list.specs.Lists.{Lists, Valid, count, row, first, last, withoutEntry, movedFront, movedBack}
 use Rattle.multi_cycle_list.specs.Nodes as nodes
 use Rattle.multi_cycle_list.specs.declared.inner.MaybeEntry.{MaybeEntry}
 use Rattle.multi_cycle_list.specs.declared.inner.MaybeEntry.the-variants.{Some, None}
@@ -185,7 +185,7 @@ pub back-move : (k : ℕ) (m : Keys) → enqueueBack k m ≡ queueIn (movedBack 
 unfolding enqueueBack
 back-move k m = refl
 
-pub gone-move : (k : ℕ) (m : Keys) → dequeue k m ≡ queueIn without-entry m (found m k)
+pub gone-move : (k : ℕ) (m : Keys) → dequeue k m ≡ queueIn withoutEntry m (found m k)
 unfolding dequeue
 gone-move k m = refl
 
@@ -242,7 +242,7 @@ none-free [] q = refl
 none-free (x ∷ xs) q = never (cc)
 
 module _ (m : Keys) (k v : ℕ) (e : found m k ≡ missing) (l : k ≤ m .kMax) where
-  pub new-taken : (i : ℕ) → Some i ≡ first (row (m .lists) 1) → insert k v m ≡ done Nothing (changed i (holds k v) (without-entry i (m .lists)) m)
+  pub new-taken : (i : ℕ) → Some i ≡ first (row (m .lists) 1) → insert k v m ≡ done Nothing (changed i (holds k v) (withoutEntry i (m .lists)) m)
   new-taken i q = insert-is m k missing e v l ∙ ap (insertNew k v m) (first-of (row (m .lists) 1) i (sym q) .1)
 
   pub new-refused : None ≡ first (row (m .lists) 1) → insert k v m ≡ refuse (NotTaken k v)

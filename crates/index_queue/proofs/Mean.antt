@@ -14,7 +14,7 @@ use Rattle.state.specs.Lengths.{keysAllowed, keysLength}
 use Rattle.state.specs.Result.{Result, refuse, done, left, Bytes}
 use Rattle.state.proofs.Tests.{not-both, by-cond}
 use Rattle.state.proofs.Calls.{means-of}
-use Rattle.multi_cycle_list.specs.Lists.{Lists, count, row, without-entry, movedFront, movedBack}
+use Rattle.multi_cycle_list.specs.Lists.{Lists, count, row, withoutEntry, movedFront, movedBack}
 use Rattle.multi_cycle_list.proofs.Lists.{in-count}
 use Rattle.index_entries.specs.Keys.{Slot, free, holds, spent, Keys, hasKey, isFree, slot, Found, missing, at, found, Within, ValidKeys, withSlot, withLists, fresh}
 use Rattle.index_entries.specs.Bytes.{kMax, entries, read, wholeB}
@@ -62,8 +62,8 @@ module _ (m : Keys) (f : ValidKeys m) where
   new-valid k v h b o (i ∷ is) q =
       let c : 0 < count i (row (m .lists) 1) = rw q (in-count i (i ∷ is) (inl refl)) in
       let n : i < length (m .slots) = omega (arith, in-size (m .lists) (f .valid) 1 i c, f .entries) in
-      change-valid m i (holds k v) (without-entry i (m .lists)) f
-      (keeps m f i n (holds k v) (without-entry i (m .lists)) (b, h)
+      change-valid m i (holds k v) (withoutEntry i (m .lists)) f
+      (keeps m f i n (holds k v) (withoutEntry i (m .lists)) (b, h)
       (λ a j p w. not-both (sym w ∙ ap (λ (z : ℕ). hasKey z (slot m j)) (sym (eqb-true k a p)) ∙ o j))
       (moves-gone m f i n))
 
@@ -92,7 +92,7 @@ step-valid (Get k) m f = f
 step-valid (Remove k) m f = remove-valid m f k (found m k) (looks k (m .slots))
 step-valid (EnqueueFront k) m f = queue-valid m f (movedFront 0) (λ i h. moves-front m f i h) k (found m k) (looks k (m .slots))
 step-valid (EnqueueBack k) m f = queue-valid m f (movedBack 0) (λ i h. moves-back m f i h) k (found m k) (looks k (m .slots))
-step-valid (Dequeue k) m f = queue-valid m f without-entry (λ i h. moves-gone m f i h) k (found m k) (looks k (m .slots))
+step-valid (Dequeue k) m f = queue-valid m f withoutEntry (λ i h. moves-gone m f i h) k (found m k) (looks k (m .slots))
 step-valid (GetMut k v h) m f = stored-valid m f k v h (found m k) (looks k (m .slots))
 step-valid (Insert k v h) m f =
     by-cond (λ r. ValidKeys (left m r)) (ltb (m .kMax) k) {a = refuse (NotTaken k v)} {b = insertIn k v m (found m k)} (λ q. f) (λ q. insert-valid m f k v h (ltb-false (m .kMax) k q) (found m k) (looks k (m .slots)))
@@ -139,7 +139,7 @@ step-same (Get k) m = (refl, refl)
 step-same (Remove k) m = remove-same m (found m k)
 step-same (EnqueueFront k) m = queue-same m (movedFront 0) (found m k)
 step-same (EnqueueBack k) m = queue-same m (movedBack 0) (found m k)
-step-same (Dequeue k) m = queue-same m without-entry (found m k)
+step-same (Dequeue k) m = queue-same m withoutEntry (found m k)
 step-same (GetMut k v h) m = stored-same m v (found m k)
 step-same (Insert k v h) m = by-cond (λ r. Same m r) (ltb (m .kMax) k) (λ q. (refl, refl)) (λ q. insert-same m k v (found m k))
 step-same Front m = (refl, refl)

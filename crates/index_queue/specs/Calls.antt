@@ -9,7 +9,7 @@ use Rattle.state.specs.Lengths.{keysAllowed, keysLength}
 use Rattle.state.specs.Result as state
 use Rattle.state.specs.Result.{Result, refuse, done, Means}
 use Rattle.multi_cycle_list.specs.Lists as lists
-use Rattle.multi_cycle_list.specs.Lists.{row, first, last, without-entry, movedFront, movedBack}
+use Rattle.multi_cycle_list.specs.Lists.{row, first, last, withoutEntry, movedFront, movedBack}
 use Rattle.multi_cycle_list.specs.declared.inner.MaybeEntry.{MaybeEntry}
 use Rattle.multi_cycle_list.specs.declared.inner.MaybeEntry.the-variants.{Some, None}
 use Rattle.index_entries.specs.Keys.{Slot, free, holds, spent, Keys, slot, Found, missing, at, found, ValidKeys, withSlot, withLists, changed, fresh}
@@ -50,7 +50,7 @@ getMut k v m = storedIn v m (found m k)
 -- a new key takes the first free entry, if any
 abbrev pub insertNew : ℕ → ℕ → Keys → List ℕ → Result Answer Keys
 insertNew k v m [] = refuse (NotTaken k v)
-insertNew k v m (i ∷ is) = done Nothing (changed i (holds k v) (without-entry i (m .lists)) m)
+insertNew k v m (i ∷ is) = done Nothing (changed i (holds k v) (withoutEntry i (m .lists)) m)
 
 -- a key with a value hands it back, and the new one is not kept; 16 where it was handed back before
 abbrev pub insertIn : ℕ → ℕ → Keys → Found → Result Answer Keys
@@ -100,7 +100,7 @@ unfoldable pub enqueueBack : ℕ → Keys → Result Answer Keys
 enqueueBack k m = queueIn (movedBack 0) m (found m k)
 
 unfoldable pub dequeue : ℕ → Keys → Result Answer Keys
-dequeue k m = queueIn without-entry m (found m k)
+dequeue k m = queueIn withoutEntry m (found m k)
 
 -- n bytes are opened for keys 0 to k and e entries: 13 for sizes that are not allowed, 1 for another length
 unfoldable pub opening : ℕ → ℕ → ℕ → Result Answer Keys

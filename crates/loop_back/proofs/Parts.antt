@@ -4,7 +4,7 @@ use mathlib.Core.Path.{_≡_, refl, sym, ap, _∙_}
 use mathlib.Core.List.{List, [], _∷_, _++_}
 use native.Mathlib.Omega.{arith}
 use lib.ListN.{length, getD, set, take, drop, length-append, length-drop, take-append-drop}
-use lib.Seq.{take-at, drop-at, drop-drop, drop-cons, getD-drop, length-take-le}
+use lib.Seq.{take-at, drop-at, drop-cons, getD-drop, length-take-le}
 use borrow.Rule.Slice.PartMut.{putMid}
 use Rattle.entry_tree.specs.Places as tree
 use Rattle.entry_tree.specs.Walks.{walkOver}
@@ -33,9 +33,6 @@ module _ (s T : List ℕ) (v : ℕ) (R : List ℕ) (h : Joined s T v R) where
 
   pub byte-is : getD s 385 0 ≡ v
   byte-is = sym (getD-drop 385 s 0 0) ∙ ap (λ (z : List ℕ). getD z 0 0) tail-is
-
-  pub rest-is : drop 386 s ≡ R
-  rest-is = sym (drop-drop 1 385 s) ∙ ap (drop 1) tail-is
 
   pub long : length s ≡ 389
   long = ap length (h .is) ∙ length-append T (v ∷ R) ∙ omega (arith, h .long-t, h .long-r)

@@ -16,7 +16,7 @@ use Rattle.state.specs.Result.{Result, refuse, done, answer, left}
 use Rattle.state.proofs.Tests.{not-both, false-of, and-l, and-r}
 use Rattle.state.proofs.Calls.{Ends, not-whole, refused, laid-out, means-of}
 use Rattle.multi_cycle_list.specs.Nodes.{classes, entries, next, prev, wholeB, listOf, listsOf, read}
-use Rattle.multi_cycle_list.specs.Lists.{Lists, Valid, without, removed, pushedFront, pushedBack, withRows, without-entry, movedFront, movedBack, empty, row, first, last}
+use Rattle.multi_cycle_list.specs.Lists.{Lists, Valid, without, removed, pushedFront, pushedBack, withRows, withoutEntry, movedFront, movedBack, empty, row, first, last}
 use Rattle.multi_class_queue.specs.Inner.{refusal, moveRefusal}
 use Rattle.multi_class_queue.specs.Calls.{inSize, named, isNone, says, which, front, back, isEmpty, isFront, isBack, remove, moveFront, moveBack, opening}
 use Rattle.multi_cycle_list.specs.Laid.{laid}
@@ -256,7 +256,7 @@ module _ (s : List ℕ) (e : ℕ) (he : e < entries s) where
   unfolding isBack
   is-back-at = rw (lt-ltb e (entries s) he)
 
-  pub remove-at : remove e (read s) ≡ done Done (without-entry e (read s))
+  pub remove-at : remove e (read s) ≡ done Done (withoutEntry e (read s))
   unfolding remove
   remove-at = rw (lt-ltb e (entries s) he)
 
@@ -322,7 +322,7 @@ step-valid (Back c) m f = unchanged m f (ltb c (length (m .rows))) (named (last 
 step-valid (IsEmpty c) m f = unchanged m f (ltb c (length (m .rows))) (Holds (isNone (first (row m c))))
 step-valid (IsFront e) m f = unchanged m f (ltb e (m .entries)) (which (λ r. says e (first r)) 0 (m .rows))
 step-valid (IsBack e) m f = unchanged m f (ltb e (m .entries)) (which (λ r. says e (last r)) 0 (m .rows))
-step-valid (Remove e) m f = sized-valid (ltb e (m .entries)) Done m (without-entry e m) f (λ z. remove-valid m f e (ltb-true e (m .entries) z))
+step-valid (Remove e) m f = sized-valid (ltb e (m .entries)) Done m (withoutEntry e m) f (λ z. remove-valid m f e (ltb-true e (m .entries) z))
 step-valid (MoveFront c e) m f = moved m f c e (movedFront c e m) (λ he hc. front-valid m f e he c hc)
 step-valid (MoveBack c e) m f = moved m f c e (movedBack c e m) (λ he hc. back-valid m f e he c hc)
 

@@ -8,7 +8,7 @@ use lib.Dec.{ltb, eqb}
 use Rattle.state.specs.Lengths.{listsAllowed, listsLength}
 use Rattle.state.specs.Result as state
 use Rattle.state.specs.Result.{Result, refuse, done, Means}
-use Rattle.multi_cycle_list.specs.Lists.{Lists, Valid, row, first, last, empty, without-entry, movedFront, movedBack}
+use Rattle.multi_cycle_list.specs.Lists.{Lists, Valid, row, first, last, empty, withoutEntry, movedFront, movedBack}
 use Rattle.multi_cycle_list.specs.Nodes.{wholeB, read}
 use Rattle.multi_cycle_list.specs.Laid.{laid}
 use Rattle.multi_cycle_list.specs.declared.inner.MaybeEntry.{MaybeEntry}
@@ -63,7 +63,7 @@ unfoldable pub isBack : ℕ → Lists → Result Answer Lists
 isBack e m = inSize (hasEntry m e) (done (which (λ r. says e (last r)) 0 (m .rows)) m)
 
 unfoldable pub remove : ℕ → Lists → Result Answer Lists
-remove e m = inSize (hasEntry m e) (done Done (without-entry e m))
+remove e m = inSize (hasEntry m e) (done Done (withoutEntry e m))
 
 unfoldable pub moveFront : ℕ → ℕ → Lists → Result Answer Lists
 moveFront c e m = inSize (hasClass m c && hasEntry m e) (done Done (movedFront c e m))

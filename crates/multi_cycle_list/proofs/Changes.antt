@@ -14,7 +14,7 @@ use Rattle.state.specs.Seq.{each}
 use Rattle.state.proofs.Seq.{length-each}
 use Rattle.multi_cycle_list.specs.Nodes.{classes, entries, next, prev, wholeB, listOf, listsOf, read}
 use Rattle.multi_cycle_list.specs.Inner.{unbindB, bindB, aloneTo, asEntry, Taken}
-use Rattle.multi_cycle_list.specs.Lists.{Lists, Valid, counts, row, first, last, removed, pushedFront, pushedBack, withRows, without-entry, movedFront, movedBack, empty}
+use Rattle.multi_cycle_list.specs.Lists.{Lists, Valid, counts, row, first, last, removed, pushedFront, pushedBack, withRows, withoutEntry, movedFront, movedBack, empty}
 use Rattle.multi_cycle_list.specs.Laid.{laid}
 use Rattle.multi_cycle_list.proofs.WholeTools.{whole-sizes, allowed-of}
 use Rattle.multi_cycle_list.specs.declared.inner.MaybeEntry.the-variants.{Some}
@@ -155,8 +155,8 @@ module _ (m : Lists) (f : Valid m) (e : ℕ) (he : e < m .entries) where
   entry-in : e < entries (laid m)
   entry-in = omega (arith, ap (λ (x : Lists). x .entries) (read-laid m f))
 
-  pub remove-valid : Valid (without-entry e m)
-  remove-valid = subst (λ (x : Lists). Valid (without-entry e x)) (read-laid m f) (remove-laid (laid m) e (laid-whole m f) entry-in .valid)
+  pub remove-valid : Valid (withoutEntry e m)
+  remove-valid = subst (λ (x : Lists). Valid (withoutEntry e x)) (read-laid m f) (remove-laid (laid m) e (laid-whole m f) entry-in .valid)
 
   module _ (c : ℕ) (hc : c < length (m .rows)) where
     class-in : c < classes (laid m)

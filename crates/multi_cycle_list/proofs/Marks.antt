@@ -14,7 +14,7 @@ use lib.Dec.{eqb, ltb}
 use borrow.Author.Tests.{lt-ltb, le-ltb, le-leb, lt-leb, eq-eqb, ne-eqb, eqb-true}
 use Rattle.state.proofs.Tests.{not-both, and-r, by-cond}
 use Rattle.multi_cycle_list.specs.Nodes.{classes, entries, next, prev, listOf}
-use Rattle.multi_cycle_list.specs.Inner.{ahead, behind, Trail, ended, off, trail, trailAt, unmarked, marksOf, meetsAt, placedBy}
+use Rattle.multi_cycle_list.specs.Inner.{ahead, behind, Trail, ended, off, trail, trailAt, unmarked, marksOf, meetsAt}
 use Rattle.multi_cycle_list.proofs.Lists.{In, Below, pigeon, in-or-not, in-snoc-old, in-snoc-new, below-snoc}
 use Rattle.multi_cycle_list.proofs.Chain.{Link, Chain, chain-nodup}
 use Rattle.multi_cycle_list.proofs.Trace.{chain-trace, map-back}
@@ -397,6 +397,3 @@ module _ (s seen : List ℕ) (n k : ℕ) (hn : n ≡ classes s + entries s) (q :
   pub marks-are : trail n n (classes s) s k k (k + 1) seen .seen ≡ marksOf s (k + 1)
   unfolding marksOf
   marks-are = ap (λ (t : Trail). t .seen) trail-at ∙ ap (marksOf s) (sym (add-one k))
-
-pub placed-last : (s seen : List ℕ) (x : ℕ) → getD seen x 0 ≡ 0 → next s x ≡ x → eqb (prev s x) x ≡ placedBy s seen x
-placed-last s seen x p q = rw (eq-eqb (getD seen x 0) 0 p, eq-eqb (next s x) x q)

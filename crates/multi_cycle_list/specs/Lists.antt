@@ -49,8 +49,8 @@ abbrev pub withRows : Lists → List (List ℕ) → Lists
 withRows m rs = record { entries = m .entries; rows = rs }
 
 -- the entry e in no list; at the front, or the back, of the class c, and nowhere else
-abbrev pub without-entry : ℕ → Lists → Lists
-without-entry e m = withRows m (removed e (m .rows))
+abbrev pub withoutEntry : ℕ → Lists → Lists
+withoutEntry e m = withRows m (removed e (m .rows))
 
 abbrev pub movedFront : ℕ → ℕ → Lists → Lists
 movedFront c e m = withRows m (pushedFront c e (removed e (m .rows)))

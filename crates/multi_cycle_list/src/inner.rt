@@ -9,7 +9,7 @@ ghost use Prim.Native.Nat.{_+_, _*_, _<_, _≤_};
 ghost use lib.Dec.{ltb};
 ghost use lib.ListN.{length, drop, getD};
 ghost use Rattle.state.specs.Lengths.{listsAllowed, listsLength};
-ghost use Rattle.multi_cycle_list.specs.Lists.{first, last, row, counts, empty, without-entry, movedFront, movedBack};
+ghost use Rattle.multi_cycle_list.specs.Lists.{first, last, row, counts, empty, withoutEntry, movedFront, movedBack};
 ghost use Rattle.multi_cycle_list.specs.Nodes.{wholeB, classes, entries, read};
 ghost use Rattle.multi_cycle_list.specs.Laid.{laid};
 ghost use Rattle.multi_cycle_list.specs.Inner.{asEntry, Fits, Taken};
@@ -95,7 +95,7 @@ fn take(s: &mut [u8], entry: usize) -> usize
 
 pub fn inner_remove(s: &mut [u8], entry: usize)
     requires { ⌜ (wholeB (now s) ≡ true) × (entry < entries (now s)) ⌝ }
-    ensures { λ _. ⌜ now (s .exit) ≡ laid (without-entry entry (read (now (s .entry)))) ⌝ }
+    ensures { λ _. ⌜ now (s .exit) ≡ laid (withoutEntry entry (read (now (s .entry)))) ⌝ }
 {
     take(s, entry);
 }

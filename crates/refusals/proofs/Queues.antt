@@ -192,7 +192,7 @@ enqueue-back k m = queue-in refl (lists.movedBack 0) m (found m k)
 
 pub dequeue : (k : ℕ) → Keyed (refusals (IqDequeue k)) (iq.dequeue k)
 unfolding iq.dequeue
-dequeue k m = queue-in refl lists.without-entry m (found m k)
+dequeue k m = queue-in refl lists.withoutEntry m (found m k)
 
 pub open-keys : (n k e : ℕ) → Ends (refusals (IqOpen k e)) keyAnswer (iq.opening n k e)
 unfolding iq.opening

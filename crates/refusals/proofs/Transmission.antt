@@ -1,13 +1,13 @@
 -- How the calls of message and response transmission end.
 use Prim.Native.Nat.{ℕ}
 use mathlib.Core.Path.{_≡_, refl}
-use mathlib.Core.Bool.{Bool, true, not}
+use mathlib.Core.Bool.{true, not}
 use mathlib.Core.List.{List, _∷_}
 use mathlib.Core.Option.{Option, none, some}
 use lib.Dec.{ltb, eqb}
 use Rattle.state.specs.Lengths.{messagesLength, responsesLength}
 use Rattle.state.specs.Result.{Result, refuse}
-use Rattle.entry_tree.specs.Pairs.{Pair, pair, hasSubject, without, inserted}
+use Rattle.entry_tree.specs.Pairs.{Pair, hasSubject, without}
 use Rattle.tx_queue.specs.TxQueue.{TxQueue, Pick, setsOf, firstQueue, mtuB}
 use Rattle.tx_queue.specs.Bytes as txrBytes
 use Rattle.tx_queue.specs.Steps as txr

@@ -10,7 +10,6 @@ ghost use Prim.Native.Nat.{_≤_};
 ghost use lib.ListN.{length};
 ghost use lib.Dec.{leb};
 ghost use Rattle.state.specs.Seq.{allB};
-ghost use Rattle.multi_cycle_list.specs.Inner.{unmarked};
 ghost use Rattle.entry_tree.specs.Pairs.{past};
 ghost use Rattle.entry_tree.specs.Places.{size, read};
 ghost use Rattle.regular.specs.Registry.{lastB};

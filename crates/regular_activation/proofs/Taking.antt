@@ -8,7 +8,7 @@ use lib.ListN.{length, getD, set, drop, replicate}
 use borrow.Rule.Slice.PartMut.{putMid}
 use Rattle.state.specs.Result.{Bytes}
 use Rattle.multi_cycle_list.specs.Lists as lists
-use Rattle.multi_cycle_list.specs.Lists.{Lists, first, row, without-entry}
+use Rattle.multi_cycle_list.specs.Lists.{Lists, first, row, withoutEntry}
 use Rattle.multi_cycle_list.specs.declared.inner.MaybeEntry.{MaybeEntry}
 use Rattle.multi_cycle_list.specs.declared.inner.MaybeEntry.the-variants as maybe
 use Rattle.multi_cycle_list.specs.Nodes as nodes
@@ -172,15 +172,15 @@ module _ (b : List ℕ) (y : Bytes b) (h : wholeB b ≡ true) where
         abbrev two : List ℕ → List ℕ → Lists
         two x z = queues.lists 128 (x ∷ (z ∷ []))
 
-        queue-is-then : without-entry e (nodes.read (queuePart s)) ≡ queueOf m'
+        queue-is-then : withoutEntry e (nodes.read (queuePart s)) ≡ queueOf m'
         queue-is-then =
-            ap (without-entry e) queue-then
+            ap (withoutEntry e) queue-then
             ∙ ap (λ (c : List ℕ). two c (lists.without e (m .activation))) (gone-none e (m .cleanUp) (omega (arith, k .run .whole .facts .marked e, k .run .whole .facts .once e, k .run .whole .facts .waits e, front-count)))
             ∙ ap (λ (a : List ℕ). two (m .cleanUp) a) (ap (lists.without e) front-is ∙ without-same e e q refl ∙ gone-none e q (omega (arith, k .run .whole .facts .once e, k .run .whole .facts .waits e, front-count)))
             ∙ ap (λ (c : List ℕ). two c q) (k .run .idle ∙ sym (run-then .idle))
             ∙ ap (λ (a : List ℕ). two (m' .cleanUp) a) (sym activation-then)
 
-        pub taking-more : (p : List ℕ) → p ≡ listsLaid.laid (without-entry e (nodes.read (queuePart s))) → (front' : MaybeEntry) → front' ≡ first (drop 1 (row (nodes.read (queuePart s)) 1))
+        pub taking-more : (p : List ℕ) → p ≡ listsLaid.laid (withoutEntry e (nodes.read (queuePart s))) → (front' : MaybeEntry) → front' ≡ first (drop 1 (row (nodes.read (queuePart s)) 1))
             → Taking b (putMid 770 262 s p) (set slots j e) (set gone e 1) front'
         taking-more p qp front' qf =
             let is : p ≡ listsLaid.laid (queueOf m') = qp ∙ ap (λ (z : Lists). listsLaid.laid z) queue-is-then in
@@ -193,7 +193,7 @@ module _ (b : List ℕ) (y : Bytes b) (h : wholeB b ≡ true) where
               next = qf ∙ ap (λ (z : Lists). first (drop 1 (row z 1))) queue-then ∙ ap first (sym activation-then);
             }
 
-        pub shorter : (p : List ℕ) → p ≡ listsLaid.laid (without-entry e (nodes.read (queuePart s))) → (front' : MaybeEntry) → front' ≡ first (drop 1 (row (nodes.read (queuePart s)) 1))
+        pub shorter : (p : List ℕ) → p ≡ listsLaid.laid (withoutEntry e (nodes.read (queuePart s))) → (front' : MaybeEntry) → front' ≡ first (drop 1 (row (nodes.read (queuePart s)) 1))
             → length (row (nodes.read (queuePart (putMid 770 262 s p))) 1) < length (row (nodes.read (queuePart s)) 1)
         unfolding taking-more
         shorter p qp front' qf =

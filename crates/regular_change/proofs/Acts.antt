@@ -17,7 +17,7 @@ use Rattle.state.specs.Result.{Bytes}
 use Rattle.state.proofs.Filled.{zero-bytes}
 use Rattle.state.proofs.Tests.{by-cond, and-r}
 use Rattle.multi_cycle_list.specs.Lists as lists
-use Rattle.multi_cycle_list.specs.Lists.{Lists, without-entry, movedBack, empty}
+use Rattle.multi_cycle_list.specs.Lists.{Lists, withoutEntry, movedBack, empty}
 use Rattle.multi_cycle_list.specs.declared.inner.MaybeEntry.the-variants as maybe
 use Rattle.multi_cycle_list.specs.Nodes as nodes
 use Rattle.multi_cycle_list.specs.Laid as listsLaid
@@ -318,9 +318,9 @@ module _ (b : List ℕ) (y : Bytes b) (h : wholeB b ≡ true) where
     inactive-entry = omega (arith, F .entries e (omega (arith, one-i)))
 
     -- the two queues without e
-    unqueued : without-entry e (nodes.read Q) ≡ queueOf (leavesInactive e m)
+    unqueued : withoutEntry e (nodes.read Q) ≡ queueOf (leavesInactive e m)
     unqueued =
-        ap (without-entry e) (queue-read b h)
+        ap (withoutEntry e) (queue-read b h)
         ∙ ap (λ (c : List ℕ). queues.lists 128 (c ∷ (lists.without e (m .activation) ∷ []))) (gone e (m .cleanUp) (omega (arith, F .marked e, F .once e, one-i)))
 
     shorter : length (removedAt i (tree.read I)) ≤ 128
@@ -333,13 +333,13 @@ module _ (b : List ℕ) (y : Bytes b) (h : wholeB b ≡ true) where
         subst (λ (z : List ℕ). Queue z) (sym (queue-is (putMid 385 385 b p) A p Q T (put-inactive b A I Q T J p l))) own-queue
 
     pub left-inactive : let s1 = putMid 385 385 b (tree.laid (removedAt i (tree.read I)) I) in
-        putMid 770 262 s1 (listsLaid.laid (without-entry e (nodes.read (queuePart s1)))) ≡ laid (leavesInactive e m) b
+        putMid 770 262 s1 (listsLaid.laid (withoutEntry e (nodes.read (queuePart s1)))) ≡ laid (leavesInactive e m) b
     left-inactive =
         let p = tree.laid (removedAt i (tree.read I)) I in
         let s1 = putMid 385 385 b p in
         let j1 = put-inactive b A I Q T J p (trees.length-laid I long-inactive (removedAt i (tree.read I)) shorter) in
-        let q = listsLaid.laid (without-entry e (nodes.read (queuePart s1))) in
-        let is : q ≡ listsLaid.laid (queueOf (leavesInactive e m)) = ap (λ (z : List ℕ). listsLaid.laid (without-entry e (nodes.read z))) (queue-is s1 A p Q T j1) ∙ ap (λ (z : Lists). listsLaid.laid z) unqueued in
+        let q = listsLaid.laid (withoutEntry e (nodes.read (queuePart s1))) in
+        let is : q ≡ listsLaid.laid (queueOf (leavesInactive e m)) = ap (λ (z : List ℕ). listsLaid.laid (withoutEntry e (nodes.read z))) (queue-is s1 A p Q T j1) ∙ ap (λ (z : Lists). listsLaid.laid z) unqueued in
         let j2 = put-queue s1 A p Q T j1 q (ap length is ∙ queues.out-length 2 128 (listsLaid.arcs 2 0 (m .cleanUp ∷ (lists.without e (m .activation) ∷ [])))) in
         laid-from (leavesInactive e m) b j2 (active-self b y h)
         (ap (λ (l : List Pair). tree.laid l I) (removed-is I e i at place-inactive (omega (arith, F .once e)))) is (low-self b y h) (high-self b y h) (flag-self b y h) (walk-self b y h)
@@ -373,20 +373,20 @@ module _ (b : List ℕ) (y : Bytes b) (h : wholeB b ≡ true) where
           ∙ ap (λ (k : ℕ). pops.RemoveSubjectRange (placeOf e (m .active) .from) (k - 1)) (qx ∙ sym front-subject)
           ∙ sym (ap (λ (z : Step). z .says) (step-front m e ms front))
 
-    popped-queue : without-entry e (nodes.read Q) ≡ queueOf (withCleanUp ms (m .lastGap) m)
+    popped-queue : withoutEntry e (nodes.read Q) ≡ queueOf (withCleanUp ms (m .lastGap) m)
     popped-queue =
-        ap (without-entry e) (queue-read b h)
+        ap (withoutEntry e) (queue-read b h)
         ∙ ap (λ (c : List ℕ). queues.lists 128 (c ∷ (lists.without e (m .activation) ∷ []))) (ap (lists.without e) front ∙ without-same e e ms refl ∙ gone e ms (omega (arith, F .marked e, F .once e, front-count)))
         ∙ ap (λ (a : List ℕ). queues.lists 128 (ms ∷ (a ∷ []))) (gone e (m .activation) (omega (arith, F .waits e, F .once e, F .marked e, front-count)))
 
-    popped : putMid 770 262 b (listsLaid.laid (without-entry e (nodes.read Q))) ≡ laid (withCleanUp ms (m .lastGap) m) b
+    popped : putMid 770 262 b (listsLaid.laid (withoutEntry e (nodes.read Q))) ≡ laid (withCleanUp ms (m .lastGap) m) b
     popped =
-        let q = listsLaid.laid (without-entry e (nodes.read Q)) in
+        let q = listsLaid.laid (withoutEntry e (nodes.read Q)) in
         let is : q ≡ listsLaid.laid (queueOf (withCleanUp ms (m .lastGap) m)) = ap (λ (z : Lists). listsLaid.laid z) popped-queue in
         let j = put-queue b A I Q T J q (ap length is ∙ queues.out-length 2 128 (listsLaid.arcs 2 0 (ms ∷ (m .activation ∷ [])))) in
         laid-from (withCleanUp ms (m .lastGap) m) b j (active-self b y h) (inactive-self b y h) is (low-self b y h) (high-self b y h) (flag-self b y h) (walk-self b y h)
 
-    pub popped-then : putMid 770 262 b (listsLaid.laid (without-entry e (nodes.read Q))) ≡ laid (innerStep m .then) b
+    pub popped-then : putMid 770 262 b (listsLaid.laid (withoutEntry e (nodes.read Q))) ≡ laid (innerStep m .then) b
     popped-then = popped ∙ sym (ap (λ (z : Step). laid (z .then) b) (step-front m e ms front))
 
   -- ---- the last gap
@@ -424,9 +424,9 @@ module _ (b : List ℕ) (y : Bytes b) (h : wholeB b ≡ true) where
     pub next-room : tree.size A < 128
     next-room = omega (arith, at-most m F, read-length A, read-length I, next-place)
 
-    activated-queue : m .cleanUp ≡ [] → without-entry e (nodes.read Q) ≡ queueOf (becomesActive e 0 qs m)
+    activated-queue : m .cleanUp ≡ [] → withoutEntry e (nodes.read Q) ≡ queueOf (becomesActive e 0 qs m)
     activated-queue c =
-        ap (without-entry e) (queue-read b h)
+        ap (withoutEntry e) (queue-read b h)
         ∙ ap (λ (l : List ℕ). queues.lists 128 (l ∷ (lists.without e (m .activation) ∷ []))) (gone e (m .cleanUp) (omega (arith, F .marked e, F .once e, F .waits e, next-count)))
         ∙ ap (λ (a : List ℕ). queues.lists 128 (m .cleanUp ∷ (a ∷ []))) (ap (lists.without e) front ∙ without-same e e qs refl ∙ gone e qs (omega (arith, F .waits e, F .once e, next-count)))
 
@@ -440,12 +440,12 @@ module _ (b : List ℕ) (y : Bytes b) (h : wholeB b ≡ true) where
     next-whole p q = whole-leaves e i at next-inactive p q
 
     -- where the pair joins
-    pub next-joins : m .cleanUp ≡ [] → (p q : List ℕ) → p ≡ tree.laid (removedAt i (tree.read I)) I → q ≡ listsLaid.laid (without-entry e (nodes.read (queuePart (putMid 385 385 b p))))
+    pub next-joins : m .cleanUp ≡ [] → (p q : List ℕ) → p ≡ tree.laid (removedAt i (tree.read I)) I → q ≡ listsLaid.laid (withoutEntry e (nodes.read (queuePart (putMid 385 385 b p))))
         → activePart (putMid 770 262 (putMid 385 385 b p) q) ≡ A
     next-joins c p q qp qq =
         let s1 = putMid 385 385 b p in
         let j1 = put-inactive b A I Q T J p (ap length qp ∙ trees.length-laid I long-inactive (removedAt i (tree.read I)) gone-length) in
-        let is : q ≡ listsLaid.laid (queueOf (becomesActive e 0 qs m)) = qq ∙ ap (λ (z : List ℕ). listsLaid.laid (without-entry e (nodes.read z))) (queue-is s1 A p Q T j1) ∙ ap (λ (z : Lists). listsLaid.laid z) (activated-queue c) in
+        let is : q ≡ listsLaid.laid (queueOf (becomesActive e 0 qs m)) = qq ∙ ap (λ (z : List ℕ). listsLaid.laid (withoutEntry e (nodes.read z))) (queue-is s1 A p Q T j1) ∙ ap (λ (z : Lists). listsLaid.laid z) (activated-queue c) in
         let j2 = put-queue s1 A p Q T j1 q (ap length is ∙ queues.out-length 2 128 (listsLaid.arcs 2 0 (m .cleanUp ∷ (qs ∷ [])))) in
         active-is (putMid 770 262 s1 q) A p q T j2
 
@@ -464,14 +464,14 @@ module _ (b : List ℕ) (y : Bytes b) (h : wholeB b ≡ true) where
 
     pub activated : m .cleanUp ≡ [] → (x : ℕ)
         → let s1 = putMid 385 385 b (tree.laid (removedAt i (tree.read I)) I) in
-        let s2 = putMid 770 262 s1 (listsLaid.laid (without-entry e (nodes.read (queuePart s1)))) in
+        let s2 = putMid 770 262 s1 (listsLaid.laid (withoutEntry e (nodes.read (queuePart s1)))) in
         putMid 0 385 s2 (tree.laid (inserted (pair e x) (tree.read (activePart s2))) (activePart s2)) ≡ laid (becomesActive e x qs m) b
     activated c x =
         let p = tree.laid (removedAt i (tree.read I)) I in
         let s1 = putMid 385 385 b p in
         let j1 = put-inactive b A I Q T J p (trees.length-laid I long-inactive (removedAt i (tree.read I)) gone-length) in
-        let q = listsLaid.laid (without-entry e (nodes.read (queuePart s1))) in
-        let is : q ≡ listsLaid.laid (queueOf (becomesActive e x qs m)) = ap (λ (z : List ℕ). listsLaid.laid (without-entry e (nodes.read z))) (queue-is s1 A p Q T j1) ∙ ap (λ (z : Lists). listsLaid.laid z) (activated-queue c) in
+        let q = listsLaid.laid (withoutEntry e (nodes.read (queuePart s1))) in
+        let is : q ≡ listsLaid.laid (queueOf (becomesActive e x qs m)) = ap (λ (z : List ℕ). listsLaid.laid (withoutEntry e (nodes.read z))) (queue-is s1 A p Q T j1) ∙ ap (λ (z : Lists). listsLaid.laid z) (activated-queue c) in
         let j2 = put-queue s1 A p Q T j1 q (ap length is ∙ queues.out-length 2 128 (listsLaid.arcs 2 0 (m .cleanUp ∷ (qs ∷ [])))) in
         let s2 = putMid 770 262 s1 q in
         let a = tree.laid (inserted (pair e x) (tree.read (activePart s2))) (activePart s2) in
@@ -496,13 +496,13 @@ module _ (b : List ℕ) (y : Bytes b) (h : wholeB b ≡ true) where
     abbrev unmarked : Registry
     unmarked = withCleanUp (lists.without e (m .cleanUp)) (m .lastGap) m
 
-    withdrawn-queue : without-entry e (nodes.read Q) ≡ queueOf unmarked
+    withdrawn-queue : withoutEntry e (nodes.read Q) ≡ queueOf unmarked
     withdrawn-queue =
-        ap (without-entry e) (queue-read b h)
+        ap (withoutEntry e) (queue-read b h)
         ∙ ap (λ (a : List ℕ). queues.lists 128 (lists.without e (m .cleanUp) ∷ (a ∷ []))) (gone e (m .activation) idle)
 
     abbrev W : List ℕ
-    W = listsLaid.laid (without-entry e (nodes.read Q))
+    W = listsLaid.laid (withoutEntry e (nodes.read Q))
 
     W-is : W ≡ listsLaid.laid (queueOf unmarked)
     W-is = ap (λ (z : Lists). listsLaid.laid z) withdrawn-queue
@@ -528,17 +528,17 @@ module _ (b : List ℕ) (y : Bytes b) (h : wholeB b ≡ true) where
         (ap (flagOver true) (tail-at s1 A I W T J1 2)) (walk-self b y h))
 
     -- the queue after the mark was withdrawn
-    valid-unmarked : lists.Valid (without-entry e (nodes.read Q))
+    valid-unmarked : lists.Valid (withoutEntry e (nodes.read Q))
     valid-unmarked = remove-valid (nodes.read Q) (queues.read-valid Q whole-queue) e (omega (arith, entries-all, active-entry))
 
     queue-then : queuePart s1 ≡ W
     queue-then = queue-is s1 A I W T J1
 
     whole-then : nodes.wholeB (queuePart s1) ≡ true
-    whole-then = ap nodes.wholeB queue-then ∙ queues.laid-whole (without-entry e (nodes.read Q)) valid-unmarked
+    whole-then = ap nodes.wholeB queue-then ∙ queues.laid-whole (withoutEntry e (nodes.read Q)) valid-unmarked
 
     read-then : nodes.read (queuePart s1) ≡ queueOf unmarked
-    read-then = ap nodes.read queue-then ∙ queues.read-laid (without-entry e (nodes.read Q)) valid-unmarked ∙ withdrawn-queue
+    read-then = ap nodes.read queue-then ∙ queues.read-laid (withoutEntry e (nodes.read Q)) valid-unmarked ∙ withdrawn-queue
 
     pub queue-ready : Queue (queuePart s1)
     queue-ready =

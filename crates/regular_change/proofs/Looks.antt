@@ -17,18 +17,18 @@ use Rattle.entry_tree.specs.Pairs.{Pair, Place, count, isEntry, hasEntry, place
 use Rattle.entry_tree.specs.Places as tree
 use Rattle.entry_tree.specs.Places.{size, entryAt, subjectAt, pairAt}
 use Rattle.entry_tree.specs.Inner.{position}
-use Rattle.entry_tree.proofs.Reading.{read-length, read-at, read-place-subject, read-place-first, read-place-from}
+use Rattle.entry_tree.proofs.Reading.{read-at, read-place-subject, read-place-first, read-place-from}
 use Rattle.entry_tree.proofs.Changes.{range-at}
-use Rattle.entry_tree.proofs.Finding.{place-rest-at, drop-end, drop-next, entry-place, entry-counts, few-others}
+use Rattle.entry_tree.proofs.Finding.{place-rest-at, drop-end, drop-next, entry-place, entry-counts}
 use Rattle.regular.specs.Registry.{queued}
 use Rattle.regular.specs.Steps.{newMark}
-use Rattle.regular.specs.Bytes.{activePart, inactivePart, queuePart, read, wholeB, queueOf}
+use Rattle.regular.specs.Bytes.{activePart, inactivePart, queuePart, read, wholeB}
 use Rattle.regular.proofs.Grounds.{sizes-of, two-counts}
 use Rattle.regular.proofs.Parts as parts
 use Rattle.regular.proofs.Testing.{Conditions, conditions}
-use Rattle.entry_tree.proofs.Count.{same, diff, compareEq, any-true, any-false, true-any}
+use Rattle.entry_tree.proofs.Count.{same, diff, compareEq, any-true, true-any}
 use Rattle.regular_valid.proofs.Queue.{count-first}
-use Rattle.regular_valid.proofs.Facts.{Facts, at-most}
+use Rattle.regular_valid.proofs.Facts.{Facts}
 use Rattle.regular_valid.proofs.Reading as reading
 use Rattle.regular_change.specs.Inner.{fromAt, gapBefore, gapOf}
 use Rattle.regular_change.specs.declared.look.Gap.{Gap}
@@ -146,11 +146,6 @@ known s w =
       facts = reading.read-facts s w;
     }
 
--- the queue's bytes mean both queues
-pub queue-means : (s : List ℕ) → Known s → nodes.read (queuePart s) ≡ queueOf (read s)
-unfolding nodes.listsOf each
-queue-means s k = rw (k .classes, k .entries) refl
-
 front-counts : (e : ℕ) (q : List ℕ) → first q ≡ Some e → 0 < lists.count e q
 front-counts e [] h = absurd (let z : _≡_ {A = ℕ} 0 1 = cc in omega arith)
 front-counts e (x ∷ q) h = let r : x ≡ e = cc in rw (← r) (omega (arith, count-first x q))
@@ -170,45 +165,12 @@ module _ (s : List ℕ) (w : wholeB s ≡ true) where
   pub active-in-range : (e : ℕ) → hasEntry e (read s .active) ≡ true → e < 128
   active-in-range e h = omega (arith, known s w .facts .entries e (omega (arith, any-true (isEntry e) (read s .active) h)))
 
-  pub inactive-in-range : (e : ℕ) → hasEntry e (read s .inactive) ≡ true → e < 128
-  inactive-in-range e h = omega (arith, known s w .facts .entries e (omega (arith, any-true (isEntry e) (read s .inactive) h)))
-
   -- an active entry stands in no queue but the clean-up queue
   pub active-linked : (e : ℕ) → hasEntry e (read s .active) ≡ true → lists.counts e (nodes.listsOf (queuePart s)) ≡ lists.count e (read s .cleanUp)
   active-linked e h =
       two-counts (queuePart s) e (known s w .classes)
       ∙ omega (arith, any-true (isEntry e) (read s .active) h, known s w .facts .once e, known s w .facts .waits e)
 
-  -- each entry stands in the queue of its tree only
-  pub active-waits-not : (e : ℕ) → hasEntry e (read s .active) ≡ true → lists.count e (read s .activation) ≡ 0
-  active-waits-not e h = omega (arith, any-true (isEntry e) (read s .active) h, known s w .facts .once e, known s w .facts .waits e)
-
-  pub inactive-unmarked : (e : ℕ) → hasEntry e (read s .inactive) ≡ true → lists.count e (read s .cleanUp) ≡ 0
-  inactive-unmarked e h = omega (arith, any-true (isEntry e) (read s .inactive) h, known s w .facts .once e, known s w .facts .marked e)
-
-  pub absent-unmarked : (e : ℕ) → hasEntry e (read s .active) ≡ false → lists.count e (read s .cleanUp) ≡ 0
-  absent-unmarked e h = omega (arith, any-false (isEntry e) (read s .active) h, known s w .facts .marked e)
-
-  pub absent-waits-not : (e : ℕ) → hasEntry e (read s .inactive) ≡ false → lists.count e (read s .activation) ≡ 0
-  absent-waits-not e h = known s w .facts .waits e ∙ any-false (isEntry e) (read s .inactive) h
-
   -- the fronts of the queues
   pub front-active : (e : ℕ) → first (read s .cleanUp) ≡ Some e → hasEntry e (read s .active) ≡ true
   front-active e h = true-any (isEntry e) (read s .active) (omega (arith, known s w .facts .marked e, front-counts e (read s .cleanUp) h))
-
-  pub front-inactive : (e : ℕ) → first (read s .activation) ≡ Some e → hasEntry e (read s .inactive) ≡ true
-  front-inactive e h = true-any (isEntry e) (read s .inactive) (omega (arith, known s w .facts .waits e, front-counts e (read s .activation) h))
-
-  -- the room in the trees
-  pub at-most-128 : size (inactivePart s) + size (activePart s) ≤ 128
-  at-most-128 = omega (arith, at-most (read s) (known s w .facts), read-length (inactivePart s), read-length (activePart s))
-
-  pub room-for : (e : ℕ) → e < 128 → hasEntry e (read s .inactive) ≡ false → hasEntry e (read s .active) ≡ false → size (inactivePart s) + size (activePart s) < 128
-  room-for e b h k =
-      omega (
-        arith,
-        read-length (inactivePart s),
-        read-length (activePart s),
-        few-others e 128 (read s .inactive) (read s .active) b (any-false (isEntry e) (read s .inactive) h) (any-false (isEntry e) (read s .active) k) (known s w .facts .once)
-            (λ x i. omega (arith, known s w .facts .entries x i)),
-      )

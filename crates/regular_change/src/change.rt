@@ -17,7 +17,7 @@ use state::fill;
 ghost use mathlib.Core.Path.{_≡_};
 ghost use mathlib.Core.Bool.{true, false};
 ghost use mathlib.Core.List.{[]};
-ghost use Prim.Native.Nat.{_+_, _<_, _≤_};
+ghost use Prim.Native.Nat.{_+_, _<_};
 ghost use lib.ListN.{length, replicate};
 ghost use Rattle.multi_cycle_list.specs.Lists.{first};
 ghost use Rattle.multi_cycle_list.specs.declared.inner.MaybeEntry.the-variants as maybe;

@@ -6,7 +6,7 @@ use entry_tree::len;
 use entry_tree::subject_at;
 use multi_cycle_list::inner::inner_is_linked;
 ghost use mathlib.Core.Path.{_≡_};
-ghost use mathlib.Core.Bool.{true, false};
+ghost use mathlib.Core.Bool.{true};
 ghost use Prim.Native.Nat.{suc, _-_, _<_, _≤_};
 ghost use lib.ListN.{length, drop};
 ghost use Rattle.entry_tree.specs.Pairs.{hasEntry, hasSubject, placeOf};

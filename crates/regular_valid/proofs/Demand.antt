@@ -120,14 +120,6 @@ module _ (m : Registry) (F : ℕ → Bool) (g : Registered) where
   add-low (ends k j h) x q = absurd (let z : _≡_ {A = ℕ} 0 1 = cc in omega arith)
   add-low (removes a b k r s j c h) x q = absurd (let z : _≡_ {A = ℕ} 0 1 = cc in omega arith)
 
-  removal-low : {r : Result Answer Registry} → Polled m F g r → (a b : ℕ) → answer r ≡ RemoveSubjectRange a b → (a ≤ b) × (b ≤ 8191)
-  removal-low (adds y k r j h) a b q = absurd (let z : _≡_ {A = ℕ} 0 1 = cc in omega arith)
-  removal-low (ends k j h) a b q = absurd (let z : _≡_ {A = ℕ} 0 1 = cc in omega arith)
-  removal-low (removes c d k r s j e h) a b q =
-      let z : c ≡ a = cc in
-      let y : d ≡ b = cc in
-      (omega arith, omega arith)
-
   less : {r : Result Answer Registry} → Polled m F g r → isUpdate (answer r) ≡ true → due (left m r) < due m
   less (adds x k r j h) q = h
   less (ends k j h) q = not-both (sym q)
@@ -145,13 +137,6 @@ module _ (m : Registry) (F : ℕ → Bool) (g : Registered) where
 
     pub poll-says : (isUpdate (answer (pollPop m)) ≡ true) ⊎ (answer (pollPop m) ≡ Nothing)
     poll-says = says (polled m F g i)
-
-    -- the subjects of an update
-    pub add-range : (x : ℕ) → answer (pollPop m) ≡ AddSubject x → x ≤ 8191
-    add-range = add-low (polled m F g i)
-
-    pub removal-range : (a b : ℕ) → answer (pollPop m) ≡ RemoveSubjectRange a b → (a ≤ b) × (b ≤ 8191)
-    removal-range = removal-low (polled m F g i)
 
     -- an update leaves less to hand out, and 'nothing' leaves nothing
     pub poll-less : isUpdate (answer (pollPop m)) ≡ true → due (left m (pollPop m)) < due m

@@ -95,6 +95,3 @@ module _ (m : Registry) (f : Facts m) (e : ℕ) (q : List ℕ) where
   next-on a =
       let w : lists.count e (e ∷ q) ≡ count (isEntry e) (m .inactive) = rw a at (f .waits e) in
       find-on e 0 (m .inactive) (omega (arith, count-first e q))
-
-  pub next-range : m .activation ≡ e ∷ q → placeOf e (m .inactive) .subject ≤ 8191
-  next-range a = f .inactive-subjects (placeOf e (m .inactive) .subject) (next-on a)

@@ -47,6 +47,3 @@ whole-valid m w =
 
 pub step-valid : (k : Call) (m : Registry) → Valid m → Valid (left m (step k m))
 step-valid k m f = whole-valid (left m (step k m)) (step-whole k m (valid-whole m f))
-
-pub inner-valid : (m : Registry) → Valid m → Valid (innerStep m .then)
-inner-valid m f = whole-valid (innerStep m .then) (inner-whole m (valid-whole m f))

@@ -13,7 +13,7 @@ use borrow.Rule.Slice.PartMut.{putMid}
 use Rattle.state.specs.Result.{Bytes}
 use Rattle.state.specs.Seq.{each}
 use Rattle.state.proofs.Seq.{each-same, getD-each}
-use Rattle.multi_cycle_list.specs.Lists.{Lists, without-entry, movedBack, empty}
+use Rattle.multi_cycle_list.specs.Lists.{Lists, withoutEntry, movedBack, empty}
 use Rattle.multi_cycle_list.specs.Nodes as nodes
 use Rattle.multi_cycle_list.specs.Laid as lists
 use Rattle.multi_cycle_list.proofs.Laid as listsLaid
@@ -53,8 +53,8 @@ module _ (s : List ℕ) (y : Bytes s) (h : wholeB s ≡ true) (e : ℕ) (he : e 
   -- the queues
 
   module _ (from to : ℕ) where
-    pub requeue-out : 16 ≤ to → (p : List ℕ) → p ≡ lists.laid (without-entry e (nodes.read (queuePart s))) → putMid 0 290 s p ≡ withQueues s (requeued from to e (m .queues))
-    requeue-out l p q = rw (le-ltb to 16 l) (ap (λ (z : List ℕ). z ++ drop 290 s) (q ∙ ap (λ (z : Lists). lists.laid (without-entry e z)) (queue-read s y h)))
+    pub requeue-out : 16 ≤ to → (p : List ℕ) → p ≡ lists.laid (withoutEntry e (nodes.read (queuePart s))) → putMid 0 290 s p ≡ withQueues s (requeued from to e (m .queues))
+    requeue-out l p q = rw (le-ltb to 16 l) (ap (λ (z : List ℕ). z ++ drop 290 s) (q ∙ ap (λ (z : Lists). lists.laid (withoutEntry e z)) (queue-read s y h)))
 
     pub requeue-back : to < 16 → from ≢ to → (p : List ℕ) → p ≡ lists.laid (movedBack to e (nodes.read (queuePart s))) → putMid 0 290 s p ≡ withQueues s (requeued from to e (m .queues))
     requeue-back l n p q = rw (lt-ltb to 16 l, ne-eqb from to n) (ap (λ (z : List ℕ). z ++ drop 290 s) (q ∙ ap (λ (z : Lists). lists.laid (movedBack to e z)) (queue-read s y h)))
@@ -98,7 +98,7 @@ module _ (s : List ℕ) (y : Bytes s) (h : wholeB s ≡ true) (e : ℕ) (he : e 
 
   -- the entry leaves
 
-  pub left : m .pick ≡ none → (from : ℕ) (p : List ℕ) → p ≡ lists.laid (without-entry e (nodes.read (queuePart s))) → set (putMid 0 290 s p) (546 + e) 0 ≡ laid (becomes e from none m) s
+  pub left : m .pick ≡ none → (from : ℕ) (p : List ℕ) → p ≡ lists.laid (withoutEntry e (nodes.read (queuePart s))) → set (putMid 0 290 s p) (546 + e) 0 ≡ laid (becomes e from none m) s
   left c from p q =
       ap (λ (z : List ℕ). set z (546 + e) 0) (requeue-out from 16 (omega arith) p q)
       ∙ laid-from (becomes e from none m) s (set-flag (withQueues s (requeued from 16 e (m .queues))) (Q from 16) (each 128 (readyAt s)) (each 128 (startedAt s)) (each 128 (flagAt s)) (tailOf s) (J from 16) e 0 he)

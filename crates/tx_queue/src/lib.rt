@@ -9,7 +9,7 @@ use multi_cycle_list::whole::whole_marked;
 ghost use mathlib.Core.Path.{_≡_};
 ghost use mathlib.Core.Bool.{true};
 ghost use Prim.Native.Nat.{_/_, _<_, _≤_};
-ghost use lib.ListN.{length, getD};
+ghost use lib.ListN.{length};
 ghost use Rattle.state.specs.Seq.{allB};
 ghost use Rattle.multi_cycle_list.specs.Lists.{row};
 ghost use Rattle.multi_cycle_list.specs.Nodes as nodes;

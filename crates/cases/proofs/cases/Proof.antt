@@ -29,66 +29,66 @@ use Rattle.tx_msg.specs.Steps.{register as registerMessage}
 use Rattle.tx_msg.specs.Calls.{opening as openingMessages}
 use Rattle.gomxeli.specs.Answers.{packed}
 use Rattle.gomxeli.specs.Calls.{run, left}
-use Rattle.cases.specs.Table.{Row, Seen, found, wanted, table, freshPoll, sharedSubject, threeSubjects, onlyOne, firstSubject, lastSubject, lostSlot, removedOnWalk, loopBackWalk, lastFrameOfMessage, lastFrameOfResponse, nextFrameOfMessage, nextFrameOfResponse, keyTwice}
+use Rattle.cases.specs.Table.{Row, Seen, found, expected, table, freshPoll, sharedSubject, threeSubjects, onlyOne, firstSubject, lastSubject, lostSlot, removedOnWalk, loopBackWalk, lastFrameOfMessage, lastFrameOfResponse, nextFrameOfMessage, nextFrameOfResponse, keyTwice}
 use Rattle.cases.proofs.cases.Statement.{statement}
 use Rattle.cases.proofs.cases.Tie as tie
 
-abbrev AsWanted : Row → Type 0
-AsWanted r = found r ≡ wanted r
+abbrev AsExpected : Row → Type 0
+AsExpected r = found r ≡ expected r
 
-fresh-poll : AsWanted freshPoll
+fresh-poll : AsExpected freshPoll
 unfolding allB someB each count without trace traceEnd listOf listsOf linkedAt listSizes wholeList path arcs after before twos laidOut readTree places laidTree wholeRegistry sizesRegular wholeRegular laidRegular register unregister steps pollPop hubPushStart hubPushNext openingRegular run left packed freshPoll
 fresh-poll = refl
 
-shared-subject : AsWanted sharedSubject
+shared-subject : AsExpected sharedSubject
 unfolding allB someB each count without trace traceEnd listOf listsOf linkedAt listSizes wholeList path arcs after before twos laidOut readTree places laidTree wholeRegistry sizesRegular wholeRegular laidRegular register unregister steps pollPop hubPushStart hubPushNext openingRegular run left packed sharedSubject
 shared-subject = refl
 
-three-subjects : AsWanted threeSubjects
+three-subjects : AsExpected threeSubjects
 unfolding allB someB each count without trace traceEnd listOf listsOf linkedAt listSizes wholeList path arcs after before twos laidOut readTree places laidTree wholeRegistry sizesRegular wholeRegular laidRegular register unregister steps pollPop hubPushStart hubPushNext openingRegular run left packed threeSubjects
 three-subjects = refl
 
-only-one : AsWanted onlyOne
+only-one : AsExpected onlyOne
 unfolding allB someB each count without trace traceEnd listOf listsOf linkedAt listSizes wholeList path arcs after before twos laidOut readTree places laidTree wholeRegistry sizesRegular wholeRegular laidRegular register unregister steps pollPop hubPushStart hubPushNext openingRegular run left packed onlyOne
 only-one = refl
 
-first-subject : AsWanted firstSubject
+first-subject : AsExpected firstSubject
 unfolding allB someB each count without trace traceEnd listOf listsOf linkedAt listSizes wholeList path arcs after before twos laidOut readTree places laidTree wholeRegistry sizesRegular wholeRegular laidRegular register unregister steps pollPop hubPushStart hubPushNext openingRegular run left packed firstSubject
 first-subject = refl
 
-last-subject : AsWanted lastSubject
+last-subject : AsExpected lastSubject
 unfolding allB someB each count without trace traceEnd listOf listsOf linkedAt listSizes wholeList path arcs after before twos laidOut readTree places laidTree wholeRegistry sizesRegular wholeRegular laidRegular register unregister steps pollPop hubPushStart hubPushNext openingRegular run left packed lastSubject
 last-subject = refl
 
-lost-slot : AsWanted lostSlot
+lost-slot : AsExpected lostSlot
 unfolding allB someB each count without trace traceEnd listOf listsOf linkedAt listSizes wholeList path arcs after before twos laidOut readTree places laidTree wholeRegistry sizesRegular wholeRegular laidRegular register unregister steps pollPop hubPushStart hubPushNext openingRegular run left packed lostSlot
 lost-slot = refl
 
-removed-on-walk : AsWanted removedOnWalk
+removed-on-walk : AsExpected removedOnWalk
 unfolding allB someB each count without trace traceEnd listOf listsOf linkedAt listSizes wholeList path arcs after before twos laidOut readTree places laidTree wholeRegistry sizesRegular wholeRegular laidRegular register unregister steps pollPop hubPushStart hubPushNext openingRegular run left packed removedOnWalk
 removed-on-walk = refl
 
-loop-back-walk : AsWanted loopBackWalk
+loop-back-walk : AsExpected loopBackWalk
 unfolding allB readTree places laidTree each wholeLoop wholeLoopBack laidLoopBack registerLoopBack startLoopBack nextLoopBack openingLoopBack run left packed loopBackWalk
 loop-back-walk = refl
 
-last-frame-of-message : AsWanted lastFrameOfMessage
+last-frame-of-message : AsExpected lastFrameOfMessage
 unfolding allB someB each count without trace traceEnd listOf listsOf linkedAt listSizes wholeList path arcs after before twos laidOut readTree places laidTree bits firstIn firstFrom wholeQueue sizesQueue wholeResponses laidResponses pickResponse settleResponse wholeMessage wholeMessages laidMessages registerMessage openingMessages run left packed lastFrameOfMessage
 last-frame-of-message = refl
 
-last-frame-of-response : AsWanted lastFrameOfResponse
+last-frame-of-response : AsExpected lastFrameOfResponse
 unfolding allB someB each count without trace traceEnd listOf listsOf linkedAt listSizes wholeList path arcs after before twos laidOut bits firstIn firstFrom wholeQueue sizesQueue wholeResponses laidResponses registerResponse pickResponse settleResponse openingResponses run left packed lastFrameOfResponse
 last-frame-of-response = refl
 
-next-frame-of-message : AsWanted nextFrameOfMessage
+next-frame-of-message : AsExpected nextFrameOfMessage
 unfolding allB someB each count without trace traceEnd listOf listsOf linkedAt listSizes wholeList path arcs after before twos laidOut readTree places laidTree bits firstIn firstFrom wholeQueue sizesQueue wholeResponses laidResponses pickResponse settleResponse wholeMessage wholeMessages laidMessages registerMessage openingMessages run left packed nextFrameOfMessage
 next-frame-of-message = refl
 
-next-frame-of-response : AsWanted nextFrameOfResponse
+next-frame-of-response : AsExpected nextFrameOfResponse
 unfolding allB someB each count without trace traceEnd listOf listsOf linkedAt listSizes wholeList path arcs after before twos laidOut bits firstIn firstFrom wholeQueue sizesQueue wholeResponses laidResponses registerResponse pickResponse settleResponse openingResponses run left packed nextFrameOfResponse
 next-frame-of-response = refl
 
-key-twice : AsWanted keyTwice
+key-twice : AsExpected keyTwice
 unfolding allB someB each count without trace traceEnd listOf listsOf linkedAt listSizes wholeList path arcs after before twos laidOut find sizesB listsB wholeB words longs laid get insert remove opening run left packed keyTwice
 key-twice = refl
 

@@ -1,5 +1,5 @@
 use borrow.Author.Needs.{needs}
-use Rattle.multi_cycle_list.specs.Lists.{without-entry}
+use Rattle.multi_cycle_list.specs.Lists.{withoutEntry}
 use Rattle.index_queue.specs.Calls.{dequeue}
 use Rattle.index_queue.proofs.Calls.{finds, unwhole, moved, unmoved, movable, gone-move}
 use Rattle.index_queue.proofs.dequeue.Statement.{statement}
@@ -15,13 +15,13 @@ returns : tie.Need-returns
 returns c =
     let a = c .before .before .before .before .before .before .before .before .before .before .args in
     let e = finds (a .s .now) (a .key) (c .before .before .before .before .before .before .before .find .ensures) (c .before .before .before .before .before .i .given .1) in
-    moved dequeue without-entry gone-move (a .s .now) (a .key) _ _ e (c .before .before .unqueue .ensures)
+    moved dequeue withoutEntry gone-move (a .s .now) (a .key) _ _ e (c .before .before .unqueue .ensures)
 
 returns-2 : tie.Need-returns-2
 returns-2 c =
     let a = c .before .before .before .before .before .args in
     let e = finds (a .s .now) (a .key) (c .before .before .find .ensures) (c .enum-told .given .1) in
-    unmoved dequeue without-entry gone-move (a .s .now) (a .key) e
+    unmoved dequeue withoutEntry gone-move (a .s .now) (a .key) e
 
 returns-3 : tie.Need-returns-3
 returns-3 c =

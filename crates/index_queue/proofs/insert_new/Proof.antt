@@ -1,7 +1,7 @@
 use borrow.Author.Needs.{needs}
 use native.Mathlib.Omega.{arith}
 use mathlib.Core.Path.{sym, _∙_}
-use Rattle.multi_cycle_list.specs.Lists.{without-entry}
+use Rattle.multi_cycle_list.specs.Lists.{withoutEntry}
 use Rattle.index_entries.specs.Keys.{holds, changed}
 use Rattle.index_entries.specs.Bytes.{read}
 use Rattle.index_entries.proofs.Facts.{facts-of}
@@ -34,7 +34,7 @@ returns-2 c =
     let a = c .before .before .before .before .before .before .before .before .before .before .before .before .before .args in
     let p = c .before .before .before .before .before .before .before .before .before .before .before .before .before .pre in
     let i = c .before .before .before .before .before .i .given .0 .0 in
-    changes (a .s .now) (p .0) (insert (a .key) (a .value)) _ (changed i (holds (a .key) (a .value)) (without-entry i (read (a .s .now) .lists)) (read (a .s .now))) _
+    changes (a .s .now) (p .0) (insert (a .key) (a .value)) _ (changed i (holds (a .key) (a .value)) (withoutEntry i (read (a .s .now) .lists)) (read (a .s .now))) _
     (new-taken (read (a .s .now)) (a .key) (a .value) (p .1) (omega (arith, c .before .before .before .before .before .before .before .before .before .before .word .ensures .0, c .before .before .before .before .before .before .before .before .before .if1 .left)) i (sym (c .before .before .before .before .before .i .given .1) ∙ c .before .before .before .before .before .before .before .first-of .ensures)) (c .before .before .take-entry .ensures)
 
 returns-3 : tie.Need-returns-3

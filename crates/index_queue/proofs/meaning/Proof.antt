@@ -1,7 +1,4 @@
-use borrow.Author.Needs.{needs}
-use native.Mathlib.Omega.{arith}
-use Prim.Native.Nat.{ℕ, _+_, _-_, _*_}
-use mathlib.Core.Path.{_≡_, refl, sym, ap, _∙_, subst}
+use Prim.Native.Nat.{_-_}
 use Rattle.index_queue.proofs.Mean.{mean}
 use Rattle.index_queue.proofs.meaning.Statement.{statement}
 use Rattle.index_queue.proofs.meaning.Tie as tie

@@ -1,7 +1,6 @@
 use borrow.Author.Needs.{needs}
-use native.Mathlib.Omega.{arith}
-use Prim.Native.Nat.{ℕ, _+_, _-_, _*_}
-use mathlib.Core.Path.{_≡_, refl, sym, ap, _∙_, subst}
+use Prim.Native.Nat.{_-_}
+use mathlib.Core.Path.{_∙_}
 use Rattle.index_entries.proofs.Facts.{allowed-keys}
 use Rattle.index_queue.proofs.Calls.{opens, open-sizes, open-length, open-done, sizes-keys, sizes-entries}
 use Rattle.index_queue.proofs.open.Statement.{statement}

@@ -1,6 +1,5 @@
 use borrow.Author.Needs.{needs}
-use native.Mathlib.Omega.{arith}
-use mathlib.Core.Path.{_≡_, _∙_}
+use mathlib.Core.Path.{_∙_}
 use Rattle.multi_cycle_list.proofs.WholeTools.{of-allowed}
 use Rattle.multi_class_queue.proofs.Calls.{opens, open-sizes, open-length, open-done, sizes-below, sizes-classes, sizes-entries}
 use borrow.Author.Needs.{needs}

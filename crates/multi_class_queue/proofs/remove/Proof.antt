@@ -1,8 +1,7 @@
 use borrow.Author.Needs.{needs}
 use native.Mathlib.Omega.{arith}
-use mathlib.Core.Path.{sym, _∙_}
 use Rattle.multi_class_queue.specs.Calls.{remove}
-use Rattle.multi_cycle_list.specs.Lists.{without-entry}
+use Rattle.multi_cycle_list.specs.Lists.{withoutEntry}
 use Rattle.multi_cycle_list.specs.Nodes.{read}
 use Rattle.multi_class_queue.proofs.Calls.{accepted, turned-away, changed, remove-at, remove-out}
 use Rattle.multi_class_queue.proofs.remove.Statement.{statement}
@@ -18,7 +17,7 @@ inner-remove-requires : tie.Need-inner-remove-requires
 inner-remove-requires c κs = let a = (accepted (c .before .before .before .before .before .args .s .now) 1 (c .before .before .before .before .before .args .entry) _ (c .before .before .refusal .ensures) (c .before .if1 .left)) in (a .0, omega (arith, a .1))
 
 returns-2 : tie.Need-returns-2
-returns-2 c = let a = (accepted (c .before .before .before .before .before .before .before .before .args .s .now) 1 (c .before .before .before .before .before .before .before .before .args .entry) _ (c .before .before .before .before .before .refusal .ensures) (c .before .before .before .before .if1 .left)) in changed (c .before .before .before .before .before .before .before .before .args .s .now) (a .0) (remove (c .before .before .before .before .before .before .before .before .args .entry)) (without-entry (c .before .before .before .before .before .before .before .before .args .entry) (read (c .before .before .before .before .before .before .before .before .args .s .now))) _ (remove-at (c .before .before .before .before .before .before .before .before .args .s .now) (c .before .before .before .before .before .before .before .before .args .entry) (a .1)) (c .before .before .inner-remove .ensures)
+returns-2 c = let a = (accepted (c .before .before .before .before .before .before .before .before .args .s .now) 1 (c .before .before .before .before .before .before .before .before .args .entry) _ (c .before .before .before .before .before .refusal .ensures) (c .before .before .before .before .if1 .left)) in changed (c .before .before .before .before .before .before .before .before .args .s .now) (a .0) (remove (c .before .before .before .before .before .before .before .before .args .entry)) (withoutEntry (c .before .before .before .before .before .before .before .before .args .entry) (read (c .before .before .before .before .before .before .before .before .args .s .now))) _ (remove-at (c .before .before .before .before .before .before .before .before .args .s .now) (c .before .before .before .before .before .before .before .before .args .entry) (a .1)) (c .before .before .inner-remove .ensures)
 
 pub remove-spec : {M : Type 1} → statement M
 remove-spec =

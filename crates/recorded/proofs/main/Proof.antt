@@ -1,8 +1,6 @@
 use borrow.Author.Needs.{needs}
-use mathlib.Core.Path.{_≡_, refl, sym, _∙_}
-use native.Mathlib.Omega.{arith}
+use mathlib.Core.Path.{_≡_, refl}
 use lib.ListN.{length}
-use lib.Seq.{length-take-le}
 use Rattle.recorded.proofs.main.Statement.{statement}
 use Rattle.recorded.proofs.main.Tie as tie
 

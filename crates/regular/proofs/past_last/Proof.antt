@@ -1,6 +1,6 @@
 use borrow.Author.Needs.{needs}
 use native.Mathlib.Omega.{arith}
-use mathlib.Core.Path.{sym, _∙_}
+use mathlib.Core.Path.{sym}
 use Rattle.regular.proofs.Turns.{past-empty, past-of}
 use Rattle.regular.proofs.past_last.Statement.{statement}
 use Rattle.regular.proofs.past_last.Tie as tie

@@ -1,5 +1,5 @@
 use borrow.Author.Needs.{needs}
-use mathlib.Core.Path.{sym, _∙_}
+use mathlib.Core.Path.{sym}
 use Rattle.regular.proofs.Turns.{no-active, no-inactive, no-classes, sizes-last}
 use Rattle.regular.proofs.sizes.Statement.{statement}
 use Rattle.regular.proofs.sizes.Tie as tie

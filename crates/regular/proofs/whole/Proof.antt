@@ -1,16 +1,16 @@
 use borrow.Author.Needs.{needs}
 use Prim.Native.Nat.{ℕ}
-use mathlib.Core.Path.{_≡_, refl, sym, ap, _∙_}
+use mathlib.Core.Path.{refl, sym, ap, _∙_}
 use mathlib.Core.List.{List}
 use native.Mathlib.Omega.{arith}
 use Rattle.state.specs.Seq.{allB}
 use Rattle.multi_cycle_list.specs.Inner.{unmarked}
 use Rattle.entry_tree.specs.Places as tree
-use Rattle.regular.specs.Bytes.{activePart, inactivePart, read}
+use Rattle.regular.specs.Bytes.{inactivePart, read}
 use Rattle.entry_tree.specs.Testing.{pairsB, seenAfter, pointedB}
 use Rattle.regular.specs.Inner.{metB}
 use Rattle.regular.proofs.Parts.{split}
-use Rattle.regular.proofs.Grounds.{Ground, sizes-of, no-length, no-sizes, no-queue, no-active, no-inactive, no-all-met, no-last, whole-last}
+use Rattle.regular.proofs.Grounds.{sizes-of, no-length, no-sizes, no-queue, no-active, no-inactive, no-all-met, no-last, whole-last}
 use Rattle.regular.proofs.whole.Statement.{statement}
 use Rattle.regular.proofs.whole.Tie as tie
 

@@ -1,6 +1,5 @@
 use borrow.Author.Needs.{needs}
 use native.Mathlib.Omega.{arith}
-use mathlib.Core.Path.{sym, ap, _∙_}
 use Prim.Native.Nat.{_+_}
 use Rattle.entry_tree.proofs.Walking.{after-none, after-some}
 use Rattle.entry_tree.proofs.walk.next.Statement.{statement}

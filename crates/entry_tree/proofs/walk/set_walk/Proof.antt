@@ -1,5 +1,4 @@
 use borrow.Author.Needs.{needs}
-use mathlib.Core.Path.{_≡_, refl, sym, ap, _∙_}
 use Rattle.entry_tree.proofs.Walking.{walk-to, walk-ends, walk-ended}
 use Rattle.entry_tree.proofs.walk.set_walk.Statement.{statement}
 use Rattle.entry_tree.proofs.walk.set_walk.Tie as tie

@@ -1,5 +1,5 @@
 use borrow.Author.Needs.{needs}
-use mathlib.Core.Path.{_≡_, refl, sym, ap, _∙_}
+use mathlib.Core.Path.{_∙_}
 use Rattle.entry_tree.specs.Inner.{walkAt}
 use Rattle.entry_tree.proofs.Walking.{walk-past, walk-stays}
 use Rattle.entry_tree.proofs.walk.walk_past.Statement.{statement}

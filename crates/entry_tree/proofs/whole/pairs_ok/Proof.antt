@@ -1,6 +1,5 @@
-use borrow.Author.Needs.{needs}
-use Prim.Native.Nat.{ℕ, suc, _+_, _-_, _<_, _≤_}
-use mathlib.Core.Path.{_≡_, refl, sym, ap, _∙_, subst}
+use Prim.Native.Nat.{_+_, _-_, _<_}
+use mathlib.Core.Path.{_≡_, sym, _∙_}
 use native.Mathlib.Omega.{arith}
 use Rattle.entry_tree.specs.Places.{size, pairAt}
 use Rattle.entry_tree.proofs.Passing.{fits-of}

@@ -1,5 +1,5 @@
 use borrow.Author.Needs.{needs}
-use mathlib.Core.Path.{sym, _∙_}
+use mathlib.Core.Path.{sym}
 use Rattle.entry_tree.proofs.Turns.{walk-none, walk-some}
 use Rattle.entry_tree.proofs.whole.pointed.Statement.{statement}
 use Rattle.entry_tree.proofs.whole.pointed.Tie as tie

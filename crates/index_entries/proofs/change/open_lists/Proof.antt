@@ -1,7 +1,5 @@
-use borrow.Author.Needs.{needs}
-use native.Mathlib.Omega.{arith}
-use Prim.Native.Nat.{ℕ, _+_, _-_, _*_}
-use mathlib.Core.Path.{_≡_, refl, sym, ap, _∙_, subst}
+use Prim.Native.Nat.{_+_, _-_}
+use mathlib.Core.Path.{_≡_, _∙_}
 use Rattle.index_entries.proofs.Fresh.{lists-fit}
 use Rattle.index_entries.proofs.change.open_lists.Statement.{statement}
 use Rattle.index_entries.proofs.change.open_lists.Tie as tie

@@ -1,9 +1,9 @@
 use borrow.Author.Needs.{needs}
 use native.Mathlib.Omega.{arith}
-use Prim.Native.Nat.{ℕ, _+_, _-_, _*_}
-use mathlib.Core.Path.{_≡_, refl, sym, ap, _∙_, subst}
+use Prim.Native.Nat.{_+_, _-_}
+use mathlib.Core.Path.{_≡_, _∙_}
 use Rattle.index_entries.proofs.Facts.{facts-of}
-use Rattle.multi_cycle_list.specs.Lists.{without-entry, movedFront, movedBack}
+use Rattle.multi_cycle_list.specs.Lists.{movedFront}
 use Rattle.index_entries.specs.Bytes.{read}
 use Rattle.index_entries.proofs.Facts.{slots-length, read-valid}
 use Rattle.index_entries.proofs.Acts.{bytes-of, lists-laid, moves-front}

@@ -1,10 +1,9 @@
 use borrow.Author.Needs.{needs}
 use native.Mathlib.Omega.{arith}
 use Prim.Native.Nat.{ℕ, _+_, _-_, _*_}
-use mathlib.Core.Path.{_≡_, refl, sym, ap, _∙_, subst}
+use mathlib.Core.Path.{_≡_, sym, ap, _∙_}
 use Rattle.state.proofs.Tests.{byte-fits}
 use Rattle.index_entries.proofs.Facts.{facts-of}
-use mathlib.Core.List.{List}
 use Rattle.index_entries.specs.Inner.{setWord}
 use Rattle.index_entries.specs.Keys.{spent, withSlot}
 use Rattle.index_entries.specs.Bytes.{entries, read}

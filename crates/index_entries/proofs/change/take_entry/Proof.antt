@@ -1,14 +1,13 @@
 use borrow.Author.Needs.{needs}
 use native.Mathlib.Omega.{arith}
 use Prim.Native.Nat.{ℕ, _+_, _-_, _*_}
-use mathlib.Core.Path.{_≡_, refl, sym, ap, _∙_, subst}
+use mathlib.Core.Path.{_≡_, ap, _∙_}
 use Rattle.state.proofs.Tests.{byte-fits}
 use Rattle.index_entries.proofs.Facts.{facts-of}
 use mathlib.Core.List.{List}
 use lib.ListN.{set, length-set}
-use Rattle.index_entries.specs.Inner.{setWord, setLong, withList}
-use Rattle.index_entries.specs.Bytes.{entries, read}
-use Rattle.multi_cycle_list.specs.Lists.{without-entry}
+use Rattle.index_entries.specs.Inner.{setWord, setLong}
+use Rattle.index_entries.specs.Bytes.{entries}
 use Rattle.index_entries.proofs.Acts.{bytes-of, taken-laid}
 use Rattle.index_entries.proofs.change.take_entry.Statement.{statement}
 use Rattle.index_entries.proofs.change.take_entry.Tie as tie

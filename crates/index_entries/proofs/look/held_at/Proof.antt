@@ -1,12 +1,10 @@
 use borrow.Author.Needs.{needs}
 use native.Mathlib.Omega.{arith}
-use Prim.Native.Nat.{ℕ, _+_, _-_, _*_}
-use mathlib.Core.Path.{_≡_, refl, sym, ap, _∙_, subst}
+use Prim.Native.Nat.{_+_, _-_}
+use mathlib.Core.Path.{_≡_}
 use Rattle.state.proofs.Tests.{byte-fits}
-use borrow.Author.Tests.{lt-ltb, le-ltb}
 use Rattle.index_entries.specs.Bytes.{entries, keyWord, value}
-use Rattle.index_entries.specs.Inner.{heldOf}
-use Rattle.index_entries.proofs.Facts.{facts-of, slot-in}
+use Rattle.index_entries.proofs.Facts.{facts-of}
 use Rattle.index_entries.proofs.Held.{held-value, held-spent, held-free}
 use Rattle.index_entries.proofs.look.held_at.Statement.{statement}
 use Rattle.index_entries.proofs.look.held_at.Tie as tie

@@ -1,6 +1,6 @@
 use borrow.Author.Needs.{needs}
 use native.Mathlib.Omega.{arith}
-use mathlib.Core.Path.{_≡_, _∙_}
+use mathlib.Core.Path.{_∙_}
 use lib.ListN.{length-set}
 use Rattle.multi_cycle_list.proofs.WholeTools.{allowed-of}
 use Rattle.multi_cycle_list.proofs.Changes.{fresh}

@@ -1,15 +1,14 @@
 use borrow.Author.Needs.{needs}
 use native.Mathlib.Omega.{arith}
 use Prim.Native.Nat.{ℕ}
-use mathlib.Core.Path.{_≡_, refl, sym, ap, _∙_}
+use mathlib.Core.Path.{_≡_, ap, _∙_}
 use mathlib.Core.List.{List}
 use borrow.Rule.Slice.PartMut.{putMid, same-len-mid}
-use Rattle.state.proofs.Tests.{byte-fits}
-use Rattle.multi_cycle_list.specs.Lists.{without-entry}
+use Rattle.multi_cycle_list.specs.Lists.{withoutEntry}
 use Rattle.multi_cycle_list.specs.Nodes as nodes
 use Rattle.multi_cycle_list.specs.Laid as listsLaid
 use Rattle.entry_tree.proofs.Reading.{bytes-of}
-use Rattle.regular.specs.Bytes.{inactivePart, queuePart}
+use Rattle.regular.specs.Bytes.{queuePart}
 use Rattle.regular_change.proofs.Looks.{known}
 use Rattle.regular_change.proofs.Acts.{long-inactive, few-inactive, place-inactive, inactive-entry, whole-leaves, left-inactive}
 use Rattle.regular_change.proofs.change.leave_inactive.Statement.{statement}
@@ -37,7 +36,7 @@ same-length : tie.Need-same-length
 same-length c = omega (arith, same-len-mid 385 385 (c .before .before .before .before .before .before .before .before .before .before .before .before .args .s .now) (c .before .before .before .before .before .before .remove .last .0) (c .before .before .before .before .before .before .remove .kept .0), same-len-mid 770 262 (putMid 385 385 (c .before .before .before .before .before .before .before .before .before .before .before .before .args .s .now) (c .before .before .before .before .before .before .remove .last .0)) (c .before .before .inner-remove .last .0) (c .before .before .inner-remove .kept .0))
 
 returns : tie.Need-returns
-returns c = let s = c .before .before .before .before .before .before .before .before .before .before .before .before .args .s .now in let e = c .before .before .before .before .before .before .before .before .before .before .before .before .args .entry in ap (λ (q : List ℕ). putMid 770 262 (putMid 385 385 s (c .before .before .before .before .before .before .remove .last .0)) q) (c .before .before .inner-remove .ensures) ∙ ap (λ (p : List ℕ). putMid 770 262 (putMid 385 385 s p) (listsLaid.laid (without-entry e (nodes.read (queuePart (putMid 385 385 s p)))))) (c .before .before .before .before .before .before .remove .ensures) ∙ left-inactive s (bytes-of s (c .before .before .before .before .before .before .before .before .before .before .before .slice-known .given)) (c .before .before .before .before .before .before .before .before .before .before .before .before .pre .0) e (c .before .before .before .before .before .before .before .before .position .result) (c .before .before .before .before .before .before .before .before .position .ensures) (c .before .before .before .before .before .before .before .before .before .before .before .before .pre .1)
+returns c = let s = c .before .before .before .before .before .before .before .before .before .before .before .before .args .s .now in let e = c .before .before .before .before .before .before .before .before .before .before .before .before .args .entry in ap (λ (q : List ℕ). putMid 770 262 (putMid 385 385 s (c .before .before .before .before .before .before .remove .last .0)) q) (c .before .before .inner-remove .ensures) ∙ ap (λ (p : List ℕ). putMid 770 262 (putMid 385 385 s p) (listsLaid.laid (withoutEntry e (nodes.read (queuePart (putMid 385 385 s p)))))) (c .before .before .before .before .before .before .remove .ensures) ∙ left-inactive s (bytes-of s (c .before .before .before .before .before .before .before .before .before .before .before .slice-known .given)) (c .before .before .before .before .before .before .before .before .before .before .before .before .pre .0) e (c .before .before .before .before .before .before .before .before .position .result) (c .before .before .before .before .before .before .before .before .position .ensures) (c .before .before .before .before .before .before .before .before .before .before .before .before .pre .1)
 
 pub leave-inactive-spec : {M : Type 1} → statement M
 leave-inactive-spec =

@@ -1,18 +1,15 @@
 use borrow.Author.Needs.{needs}
 use native.Mathlib.Omega.{arith}
 use Prim.Native.Nat.{ℕ}
-use mathlib.Core.Path.{_≡_, refl, sym, ap, _∙_}
+use mathlib.Core.Path.{_≡_, ap, _∙_}
 use mathlib.Core.List.{List}
-use mathlib.Core.Bool.{true}
 use borrow.Rule.Slice.PartMut.{putMid, same-len-mid}
-use Rattle.state.proofs.Tests.{byte-fits}
 use Rattle.multi_cycle_list.specs.Lists.{movedBack}
 use Rattle.multi_cycle_list.specs.Nodes as nodes
 use Rattle.multi_cycle_list.specs.Laid as listsLaid
-use Rattle.entry_tree.specs.Pairs.{pair, inserted}
 use Rattle.entry_tree.specs.Places as tree
 use Rattle.entry_tree.proofs.Reading.{bytes-of}
-use Rattle.regular.specs.Bytes.{inactivePart, queuePart}
+use Rattle.regular.specs.Bytes.{queuePart}
 use Rattle.regular_change.specs.Inner.{withSlots}
 use Rattle.regular_change.proofs.Looks.{known}
 use Rattle.regular_change.proofs.Acts.{long-inactive, room-inactive, whole-waits, waiting}

@@ -53,14 +53,15 @@ static double clock_time(void)
     return least;
 }
 
-/* For each of so many calls; never none, even where the clock is too coarse. */
+/* For each of so many calls: at the least a nanosecond, which a call through a pointer
+ * takes even where a coarse clock tells less. */
 static double share_of(double time, unsigned calls)
 {
     static double unmeasured;
     if (unmeasured == 0)
         unmeasured = clock_time();
     double share = (time - unmeasured) / calls;
-    return share > 0.01 ? share : 0.01;
+    return share > 1 ? share : 1;
 }
 
 /* ------------------------------------------------------------------------ */

@@ -13,7 +13,7 @@ use Rattle.state.specs.Lengths.{listsAllowed, listsLength}
 use Rattle.state.specs.Seq.{each}
 use Rattle.state.proofs.Seq.{length-each}
 use Rattle.multi_cycle_list.specs.Nodes.{classes, entries, next, prev, wholeB, listOf, listsOf, read}
-use Rattle.multi_cycle_list.specs.Inner.{unbindB, bindB, aloneTo, asEntry, Taken}
+use Rattle.multi_cycle_list.specs.Inner.{unbindB, bindB, aloneTo, asEntry, Movable}
 use Rattle.multi_cycle_list.specs.Lists.{Lists, Valid, counts, row, first, last, removed, pushedFront, pushedBack, withRows, withoutEntry, movedFront, movedBack, empty}
 use Rattle.multi_cycle_list.specs.Laid.{laid}
 use Rattle.multi_cycle_list.proofs.WholeTools.{whole-sizes, allowed-of}
@@ -115,24 +115,16 @@ module _ (s : List ℕ) (e : ℕ) (h : wholeB s ≡ true) (he : e < entries s) w
         turned-laid s _ _ h (back-turned s e h he c hc) _
         (pushed-is s e h he c hc _ ∙ ap (λ (l : List ℕ). set (removed e (listsOf s)) c (l ++ (e ∷ []))) (taken-is s e h he c hc))
 
--- ---- the same, of the bytes as the code has them
+-- ---- the entry's node, taken out, can be put in next to a class
 
-module _ (s : List ℕ) (e : ℕ) (h : wholeB s ≡ true) (he : e < entries s) (t : List ℕ) (i : ℕ) where
-  pub taken-of : i ≡ classes s + e → t ≡ unbindB s i → Taken s e t i
-  taken-of n q =
-      let u = unbound-turned s e h he in
-      let r : t ≡ unbound s e = q ∙ ap (unbindB s) n in
-      let w : wholeB t ≡ true = rw r (turned-whole s _ _ (whole-sizes s h) u) in
-      let cs : classes t ≡ classes s = ap classes r ∙ u .same .cs in
-      let es : entries t ≡ entries s = ap entries r ∙ u .same .es in
-      record { node = n; is = r; fits = whole-around t w i (omega arith) .at; around = λ c hc. whole-around t w c (omega arith) }
-
-  module _ (k : Taken s e t i) (c : ℕ) (hc : c < classes s) (x : ℕ) where
-    pub front-moved : x ≡ next t c → bindB t i c x ≡ laid (movedFront c e (read s))
-    front-moved q = ap (bindB t i c) q ∙ ap (λ (j : ℕ). bindB t j c (next t c)) (k .node) ∙ ap (λ (l : List ℕ). bindB l (nodeOf s e) c (next l c)) (k .is) ∙ front-laid s e h he c hc .is
-
-    pub back-moved : x ≡ prev t c → bindB t i x c ≡ laid (movedBack c e (read s))
-    back-moved q = ap (λ (y : ℕ). bindB t i y c) q ∙ ap (λ (j : ℕ). bindB t j (prev t c) c) (k .node) ∙ ap (λ (l : List ℕ). bindB l (nodeOf s e) (prev l c) c) (k .is) ∙ back-laid s e h he c hc .is
+pub movable : (s : List ℕ) (e : ℕ) → wholeB s ≡ true → e < entries s → (i : ℕ) → i ≡ classes s + e → (c : ℕ) → c < classes s → Movable s i c
+movable s e h he i n c hc =
+    let u = unbound-turned s e h he in
+    let r : unbindB s i ≡ unbound s e = ap (unbindB s) n in
+    let w : wholeB (unbindB s i) ≡ true = rw r (turned-whole s _ _ (whole-sizes s h) u) in
+    let cs : classes (unbindB s i) ≡ classes s = ap classes r ∙ u .same .cs in
+    let es : entries (unbindB s i) ≡ entries s = ap entries r ∙ u .same .es in
+    record { out = whole-around s h i (omega arith); fits = whole-around (unbindB s i) w i (omega arith) .at; to = whole-around (unbindB s i) w c (omega arith) }
 
 -- ---- opening
 

@@ -27,21 +27,26 @@ linkB s a b = set (set s (3 + 2 * b) a) (2 + 2 * a) b
 abbrev pub unbindB : List ℕ → ℕ → List ℕ
 unbindB s i = linkB (linkB s i i) (prev s i) (next s i)
 
--- the node i, which stands alone, between the nodes a and b
+-- the node i, which stands alone, between the nodes a and b; after the node a; before the node b
 abbrev pub bindB : List ℕ → ℕ → ℕ → ℕ → List ℕ
 bindB s i a b = linkB (linkB s i b) a i
+
+abbrev pub afterB : List ℕ → ℕ → ℕ → List ℕ
+afterB s i a = bindB s i a (next s a)
+
+abbrev pub beforeB : List ℕ → ℕ → ℕ → List ℕ
+beforeB s i b = bindB s i (prev s b) b
+
+-- the node i can be taken out, and then put in next to the node k
+pub record Movable (s : List ℕ) (i k : ℕ) : Type 0 where
+  pub out : Around s i
+  pub fits : Fits (unbindB s i) i
+  pub to : Around (unbindB s i) k
 
 -- the nodes below k alone, the rest as in s
 unfoldable pub aloneTo : List ℕ → ℕ → List ℕ
 aloneTo s zero = s
 aloneTo s (suc k) = linkB (aloneTo s k) k k
-
--- t is s with the entry e taken out, and i is its node
-pub record Taken (s : List ℕ) (e : ℕ) (t : List ℕ) (i : ℕ) : Type 0 where
-  pub node : i ≡ classes s + e
-  pub is : t ≡ unbindB s (classes s + e)
-  pub fits : Fits t i
-  pub around : (c : ℕ) → c < classes s → Around t c
 
 -- the node n as an entry
 abbrev pub asEntry : List ℕ → ℕ → MaybeEntry

@@ -1,15 +1,39 @@
-// `MultiCycleList`: linking nodes, taking a node out of its cycle, and putting it in between two others.
+// `MultiCycleList`: nodes in cycles, each linked to the one after it and the one before.
 ghost use mathlib.Core.Path.{_≡_};
 ghost use Prim.Native.Nat.{_+_, _*_, _<_, _≤_};
+ghost use mathlib.Core.Bool.{not};
+ghost use lib.Dec.{eqb};
 ghost use lib.ListN.{length, getD};
-ghost use Rattle.multi_cycle_list.specs.Inner.{linkB, unbindB, bindB, aloneTo, Fits, Around};
+ghost use Rattle.multi_cycle_list.specs.Nodes.{next, prev};
+ghost use Rattle.multi_cycle_list.specs.Inner.{linkB, unbindB, bindB, afterB, beforeB, aloneTo, Fits, Around, Movable};
 
-// The link of the node `i` at `side`: at 2 to the node after it, at 3 to the one before.
-pub(crate) fn link_at(s: &[u8], i: usize, side: usize) -> usize
-    requires { ⌜ (side ≤ 3) × (3 + 2 * i < length (now s)) ⌝ }
-    ensures { λ r. ⌜ r ≡ getD (now (s .entry)) (side + 2 * i) 0 ⌝ }
+// The link of a node at `side`: at 2 to the node after it, at 3 to the one before.
+pub(crate) fn link_at(s: &[u8], node: usize, side: usize) -> usize
+    requires { ⌜ (side ≤ 3) × (3 + 2 * node < length (now s)) ⌝ }
+    ensures { λ r. ⌜ r ≡ getD (now (s .entry)) (side + 2 * node) 0 ⌝ }
 {
-    s[side + 2 * i] as usize
+    s[side + 2 * node] as usize
+}
+
+pub(crate) fn next(s: &[u8], node: usize) -> usize
+    requires { ⌜ 3 + 2 * node < length (now s) ⌝ }
+    ensures { λ r. ⌜ r ≡ next (now (s .entry)) node ⌝ }
+{
+    link_at(s, node, 2)
+}
+
+pub(crate) fn prev(s: &[u8], node: usize) -> usize
+    requires { ⌜ 3 + 2 * node < length (now s) ⌝ }
+    ensures { λ r. ⌜ r ≡ prev (now (s .entry)) node ⌝ }
+{
+    link_at(s, node, 3)
+}
+
+pub(crate) fn is_bound(s: &[u8], node: usize) -> bool
+    requires { ⌜ 3 + 2 * node < length (now s) ⌝ }
+    ensures { λ r. ⌜ r ≡ not (eqb (next (now (s .entry)) node) node) ⌝ }
+{
+    next(s, node) != node
 }
 
 // Links the node `a` to the node `b`, both ways.
@@ -33,21 +57,39 @@ pub(crate) fn alone(s: &mut [u8], n: usize)
     }
 }
 
-pub(crate) fn unbind(s: &mut [u8], i: usize)
-    requires { ⌜ Around (now s) i ⌝ }
-    ensures { λ _. ⌜ now (s .exit) ≡ unbindB (now (s .entry)) i ⌝ }
+pub(crate) fn unbind(s: &mut [u8], node: usize)
+    requires { ⌜ Around (now s) node ⌝ }
+    ensures { λ _. ⌜ now (s .exit) ≡ unbindB (now (s .entry)) node ⌝ }
 {
-    let next = link_at(s, i, 2);
-    let prev = link_at(s, i, 3);
-    link(s, i, i);
+    let next = next(s, node);
+    let prev = prev(s, node);
+    link(s, node, node);
     link(s, prev, next);
 }
 
-// The node `i`, which stands alone, between the nodes `a` and `b`.
-pub(crate) fn bind(s: &mut [u8], i: usize, a: usize, b: usize)
-    requires { ⌜ Fits (now s) i × (Fits (now s) a × Fits (now s) b) ⌝ }
-    ensures { λ _. ⌜ now (s .exit) ≡ bindB (now (s .entry)) i a b ⌝ }
+// The node, which stands alone, between two others.
+fn bind(s: &mut [u8], node: usize, prev: usize, next: usize)
+    requires { ⌜ Fits (now s) node × (Fits (now s) prev × Fits (now s) next) ⌝ }
+    ensures { λ _. ⌜ now (s .exit) ≡ bindB (now (s .entry)) node prev next ⌝ }
 {
-    link(s, i, b);
-    link(s, a, i);
+    link(s, node, next);
+    link(s, prev, node);
+}
+
+pub(crate) fn move_after(s: &mut [u8], node: usize, prev: usize)
+    requires { ⌜ Movable (now s) node prev ⌝ }
+    ensures { λ _. ⌜ now (s .exit) ≡ afterB (unbindB (now (s .entry)) node) node prev ⌝ }
+{
+    unbind(s, node);
+    let next = next(s, prev);
+    bind(s, node, prev, next);
+}
+
+pub(crate) fn move_before(s: &mut [u8], node: usize, next: usize)
+    requires { ⌜ Movable (now s) node next ⌝ }
+    ensures { λ _. ⌜ now (s .exit) ≡ beforeB (unbindB (now (s .entry)) node) node next ⌝ }
+{
+    unbind(s, node);
+    let prev = prev(s, next);
+    bind(s, node, prev, next);
 }

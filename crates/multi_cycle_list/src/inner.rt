@@ -1,7 +1,8 @@
 // What the calls do once the bytes are known whole and the class and the entry are within the sizes. Inner functions: other crates call them, and they may have preconditions.
 use crate::cycle::alone;
-use crate::cycle::bind;
-use crate::cycle::link_at;
+use crate::cycle::is_bound;
+use crate::cycle::move_after;
+use crate::cycle::move_before;
 use crate::cycle::unbind;
 ghost use mathlib.Core.Path.{_≡_};
 ghost use mathlib.Core.Bool.{true};
@@ -12,7 +13,7 @@ ghost use Rattle.state.specs.Lengths.{listsAllowed, listsLength};
 ghost use Rattle.multi_cycle_list.specs.Lists.{first, last, row, counts, empty, withoutEntry, movedFront, movedBack};
 ghost use Rattle.multi_cycle_list.specs.Nodes.{wholeB, classes, entries, read};
 ghost use Rattle.multi_cycle_list.specs.Laid.{laid};
-ghost use Rattle.multi_cycle_list.specs.Inner.{asEntry, Fits, Taken};
+ghost use Rattle.multi_cycle_list.specs.Inner.{asEntry, Fits};
 ghost use Rattle.multi_cycle_list.specs.declared.inner.MaybeEntry.the-variants as maybe;
 
 pub enum MaybeEntry {
@@ -80,40 +81,29 @@ pub fn inner_is_linked(s: &[u8], entry: usize) -> bool
     ensures { λ r. ⌜ r ≡ ltb 0 (counts entry ((read (now (s .entry))) .rows)) ⌝ }
 {
     let i = node(s, entry);
-    link_at(s, i, 2) != i
-}
-
-// The entry out of its list. The answer is its node.
-fn take(s: &mut [u8], entry: usize) -> usize
-    requires { ⌜ (wholeB (now s) ≡ true) × (entry < entries (now s)) ⌝ }
-    ensures { λ r. ⌜ Taken (now (s .entry)) entry (now (s .exit)) r ⌝ }
-{
-    let i = node(s, entry);
-    unbind(s, i);
-    i
+    is_bound(s, i)
 }
 
 pub fn inner_remove(s: &mut [u8], entry: usize)
     requires { ⌜ (wholeB (now s) ≡ true) × (entry < entries (now s)) ⌝ }
     ensures { λ _. ⌜ now (s .exit) ≡ laid (withoutEntry entry (read (now (s .entry)))) ⌝ }
 {
-    take(s, entry);
+    let i = node(s, entry);
+    unbind(s, i);
 }
 
 pub fn inner_move_front(s: &mut [u8], class: usize, entry: usize)
     requires { ⌜ (wholeB (now s) ≡ true) × ((class < classes (now s)) × (entry < entries (now s))) ⌝ }
     ensures { λ _. ⌜ now (s .exit) ≡ laid (movedFront class entry (read (now (s .entry)))) ⌝ }
 {
-    let i = take(s, entry);
-    let next = link_at(s, class, 2);
-    bind(s, i, class, next);
+    let i = node(s, entry);
+    move_after(s, i, class);
 }
 
 pub fn inner_move_back(s: &mut [u8], class: usize, entry: usize)
     requires { ⌜ (wholeB (now s) ≡ true) × ((class < classes (now s)) × (entry < entries (now s))) ⌝ }
     ensures { λ _. ⌜ now (s .exit) ≡ laid (movedBack class entry (read (now (s .entry)))) ⌝ }
 {
-    let i = take(s, entry);
-    let prev = link_at(s, class, 3);
-    bind(s, i, prev, class);
+    let i = node(s, entry);
+    move_before(s, i, class);
 }

@@ -1,5 +1,7 @@
 // Whether bytes are a whole list queue.
 use crate::cycle::link_at;
+use crate::cycle::next;
+use crate::cycle::prev;
 ghost use mathlib.Core.Path.{_≡_};
 ghost use mathlib.Core.Bool.{true};
 ghost use Prim.Native.Nat.{_+_, _*_, _<_, _≤_};
@@ -120,10 +122,10 @@ fn is_placed(s: &[u8], seen: &[u8], x: usize) -> bool
     if seen[x] != 0 {
         return true;
     }
-    if link_at(s, x, 2) != x {
+    if next(s, x) != x {
         return false;
     }
-    link_at(s, x, 3) == x
+    prev(s, x) == x
 }
 
 fn all_placed(s: &[u8], seen: &[u8], c: usize, e: usize) -> bool

@@ -6,7 +6,7 @@ use Rattle.multi_cycle_list.proofs.inner.inner_is_linked.Tie as tie
 returns : tie.Need-returns
 returns c =
     let a = c .before .before .before in
-    rw (c .link-at .ensures, c .before .node .ensures .0) (linked-is (a .args .s .now) (a .args .entry) (a .pre .0) (a .pre .1))
+    rw (c .is-bound .ensures, c .before .node .ensures .0) (linked-is (a .args .s .now) (a .args .entry) (a .pre .0) (a .pre .1))
 
 pub inner-is-linked-spec : {M : Type 1} → statement M
 inner-is-linked-spec =

@@ -116,6 +116,14 @@ fn fits(t: &[u8], slots: &[u8], j: usize, g: usize) -> bool
     true
 }
 
+// The greater one; nothing rests on it.
+fn later(a: u8, b: u8) -> u8 {
+    if a < b {
+        return b;
+    }
+    a
+}
+
 // The place for the entry e among those noted, or 128 if it has none. `next` has for the first place of a subject the place after the last
 // one filled, or a lower one.
 fn slot_for(t: &[u8], start: &[u8], next: &[u8], slots: &[u8], e: u8) -> usize
@@ -126,15 +134,9 @@ fn slot_for(t: &[u8], start: &[u8], next: &[u8], slots: &[u8], e: u8) -> usize
     if 127 < g {
         return 128;
     }
-    let n = next[g as usize];
-    if n < g {
-        if fits(t, slots, g as usize, g as usize) {
-            return g as usize;
-        }
-        return 128;
-    }
-    if fits(t, slots, n as usize, g as usize) {
-        return n as usize;
+    let j = later(next[g as usize], g) as usize;
+    if fits(t, slots, j, g as usize) {
+        return j;
     }
     128
 }

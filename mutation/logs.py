@@ -5,11 +5,11 @@ import re
 UNFIT = re.compile(r"that can be named from here|has no field|expected type `tie\.Need-")
 # The edit is no code or no definition.
 NO_CODE = re.compile(r"is not in scope|/(?:src|specs)/[^ ]*: error")
-# A fact is named that does not hold: omega shows numbers at which it fails; two propositions that had to be one differ; a path's ends
-# do. What another tactic says of itself, as search that finds no proof, is no such fact.
+# A fact is named that does not hold: omega shows numbers at which it fails; two propositions or values that had to be one differ; a path's
+# ends do. What another tactic says of itself, as search that finds no proof, is no such fact.
 FACT = re.compile(
     r"error: `[^`]*`: (?:`omega`: the goal does not follow from what it read\. All of that holds, and the goal fails[,.]"
-    r"|(?!`)[\s\S]*(?:the two types |expected type `[\s\S]*but this has type `|must be a path whose two ends are equal))"
+    r"|(?!`)[\s\S]*(?:the two (?:types|sides|values) |expected type `[\s\S]*but this has type `|must be a path whose two ends are equal))"
 )
 # It waits for a declaration that is refused for its own reason.
 WAITS = re.compile(r"was not admitted .*so this cannot be checked")

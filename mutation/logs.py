@@ -9,7 +9,8 @@ NO_CODE = re.compile(r"is not in scope|/(?:src|specs)/[^ ]*: error")
 # ends do. What another tactic says of itself, as search that finds no proof, is no such fact.
 FACT = re.compile(
     r"error: `[^`]*`: (?:`omega`: the goal does not follow from what it read\. All of that holds, and the goal fails[,.]"
-    r"|(?!`)[\s\S]*(?:the two (?:types|sides|values) |expected type `[\s\S]*but this has type `|must be a path whose two ends are equal))"
+    r"|`[^`\n]*` ≟ `"
+    r"|(?!`)[\s\S]*(?:the two (?:types|sides|values|indices) |expected type `[\s\S]*but this has type `|must be a path whose two ends are equal))"
 )
 # It waits for a declaration that is refused for its own reason.
 WAITS = re.compile(r"was not admitted .*so this cannot be checked")

@@ -1,4 +1,4 @@
--- What the inner function answers. No contract of a public call cites this.
+-- What the inner functions answer. No contract of a public call cites this.
 use Prim.Native.Nat.{ℕ}
 use mathlib.Core.List.{List}
 use mathlib.Core.Bool.{cond, _&&_}

@@ -1,4 +1,6 @@
 // The program `calls`: reads calls, one a line, makes each on a regular registry of 4 slots, and prints a line for each.
+#![tactic(auto)]
+
 ghost use Rattle.std.specs.Prelude.{◌≡◌, ◌≤◌, length, take};
 ghost use Rattle.calls.specs.Reader as lines;
 ghost use Rattle.calls.specs.Reader.{reader, prints, fed_all, Reads};
@@ -7,7 +9,7 @@ use calls_line::line;
 use rx_msg::regular_inner::open;
 
 // How many bytes of the buffers are the line so far, and how many are to be printed.
-#[derive(Drop)]
+#[derive(Clone, Copy)]
 struct After {
     part: usize,
     printed: usize,

@@ -1,4 +1,6 @@
 // A line of the program `calls`, taken to the registry's new bytes and the line that is printed.
+#![tactic(auto)]
+
 mod parsing;
 mod printing;
 

@@ -5,7 +5,7 @@ ghost use Rattle.calls_line.specs.Lines as lines;
 ghost use Rattle.calls_line.specs.Lines.{is_digit, front, with_one, with_two, parsed};
 ghost use Rattle.calls_line.specs.Inner.{front_of, end_of, call_of};
 
-#[derive(Drop)]
+#[derive(Clone, Copy)]
 pub enum Call {
     Register(u32, u32),
     Unregister(u32),
@@ -15,14 +15,14 @@ pub enum Call {
 }
 
 // A number, and where it ends.
-#[derive(Drop)]
+#[derive(Clone, Copy)]
 enum Argument {
     Absent,
     Number(u32, usize),
 }
 
 // A number with nothing after it.
-#[derive(Drop)]
+#[derive(Clone, Copy)]
 enum Last {
     Absent,
     Number(u32),

@@ -1,4 +1,6 @@
 // The core types of Cyphal, after emcyphal-core/src/lib.rs. Values go by value; what may be missing is an enum `Maybe..`.
+#![tactic(auto)]
+
 ghost use Rattle.std.specs.Prelude.{◌≡◌, not, ◌&&◌, ◌||◌, ◌+◌, ◌%◌, eqb, leb, ltb};
 ghost use Rattle.emcyphal_core.specs.Priorities.{number, priority_of, maybe_priority, before};
 ghost use Rattle.emcyphal_core.specs.Sets.{has, set_of, without, is_empty, first_of, last_of, next_of};
@@ -6,7 +8,7 @@ ghost use Rattle.emcyphal_core.specs.Ids.{nodes, subjects, services, transfers, 
 ghost use Rattle.emcyphal_core.specs.Theorem.{BytesAreSets};
 
 // Transfer priority: 0 is the most urgent, 7 the least.
-#[derive(Drop)]
+#[derive(Clone, Copy)]
 pub enum Priority {
     Exceptional,
     Immediate,
@@ -18,7 +20,7 @@ pub enum Priority {
     Optional,
 }
 
-#[derive(Drop)]
+#[derive(Clone, Copy)]
 pub enum MaybePriority {
     Some(Priority),
     None,
@@ -89,7 +91,7 @@ impl Priority {
 }
 
 // A set of priorities: bit p is set where the priority p is in it.
-#[derive(Drop)]
+#[derive(Clone, Copy)]
 pub struct PrioritySet(u8);
 
 impl PrioritySet {
@@ -219,12 +221,12 @@ impl PrioritySet {
 }
 
 // The members still to come, the most urgent first.
-#[derive(Drop)]
+#[derive(Clone, Copy)]
 pub struct PrioritySetIterator {
     residual: PrioritySet,
 }
 
-#[derive(Drop)]
+#[derive(Clone, Copy)]
 pub enum NextPriority {
     Some(Priority, PrioritySetIterator),
     None,
@@ -254,10 +256,10 @@ impl PrioritySetIterator {
     }
 }
 
-#[derive(Drop)]
+#[derive(Clone, Copy)]
 pub struct NodeId(u8);
 
-#[derive(Drop)]
+#[derive(Clone, Copy)]
 pub enum MaybeNodeId {
     Some(NodeId),
     None,
@@ -291,10 +293,10 @@ impl NodeId {
     }
 }
 
-#[derive(Drop)]
+#[derive(Clone, Copy)]
 pub struct SubjectId(u16);
 
-#[derive(Drop)]
+#[derive(Clone, Copy)]
 pub enum MaybeSubjectId {
     Some(SubjectId),
     None,
@@ -328,10 +330,10 @@ impl SubjectId {
     }
 }
 
-#[derive(Drop)]
+#[derive(Clone, Copy)]
 pub struct ServiceId(u16);
 
-#[derive(Drop)]
+#[derive(Clone, Copy)]
 pub enum MaybeServiceId {
     Some(ServiceId),
     None,
@@ -365,10 +367,10 @@ impl ServiceId {
     }
 }
 
-#[derive(Drop)]
+#[derive(Clone, Copy)]
 pub struct TransferId(u8);
 
-#[derive(Drop)]
+#[derive(Clone, Copy)]
 pub enum MaybeTransferId {
     Some(TransferId),
     None,

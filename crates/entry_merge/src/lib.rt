@@ -1,4 +1,6 @@
 // Trees that change in one pass: two become one, and marked pairs leave. Inner: these cross crates and may require.
+#![tactic(auto)]
+
 ghost use Rattle.std.specs.Prelude.{◌≡◌, true, ◌&&◌, ◌||◌, ◌+◌, ◌<◌, ◌≤◌, leb, ltb, length};
 ghost use Rattle.entry_tree.specs.Pairs.{in_order};
 ghost use Rattle.entry_tree.specs.Places.{size, subject_at, read, laid};

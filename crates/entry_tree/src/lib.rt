@@ -1,4 +1,6 @@
 // `RBTree` of entries by subject, as an ordered array in 385 lent bytes. Inner: these cross crates and may require.
+#![tactic(auto)]
+
 pub mod walk;
 pub mod whole;
 

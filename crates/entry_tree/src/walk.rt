@@ -7,7 +7,7 @@ ghost use Rattle.entry_tree.specs.Inner.{tree_length, walk_at, with_walk, with_w
 use crate::{entry_at, first_on, len, subject_at};
 
 // The entry that a walk points at, or none.
-#[derive(Drop)]
+#[derive(Clone, Copy)]
 pub enum Walk {
     At(u8),
     Ended,

@@ -1,11 +1,13 @@
 // The filter image over lent bytes. 3: a subject above 8,191, or a range whose first passes its last. 4: a length other than 1,024.
+#![tactic(auto)]
+
 ghost use Rattle.std.specs.Prelude.{◌≡◌, false, ℕ, ◌+◌, ◌-◌, ◌*◌, ◌<◌, ◌≤◌, length};
 ghost use Rattle.state.specs.Result.{answer, Bytes};
 ghost use Rattle.filter_image.specs.Inner.{refusal};
 ghost use Rattle.filter_image.specs.Image.{holds, image_of, none, without_range, bytes, opening, add_subject, remove_subject_range, has_subject};
 
 // An answer of a call. `Holds`: whether the subject is in.
-#[derive(Drop)]
+#[derive(Clone, Copy)]
 pub enum Answer {
     Refused(u8),
     Done,

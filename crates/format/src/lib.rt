@@ -1,4 +1,6 @@
 // The tail byte of a frame, after emcyphal/src/format.rs. That file's transfer CRC is left out.
+#![tactic(auto)]
+
 ghost use Rattle.std.specs.Prelude.{◌≡◌, ◌%◌};
 ghost use Rattle.emcyphal_core.specs.Ids.{transfers};
 ghost use Rattle.emcyphal_core.specs.Sets.{has};
@@ -12,7 +14,7 @@ pub const SOT_TOGGLE_BIT: bool = true;
 pub const PAD_VALUE: u8 = 0;
 
 // Bit 7 is start of transfer, 6 end of transfer, 5 the toggle; the transfer id is in bits 4 to 0.
-#[derive(Drop)]
+#[derive(Clone, Copy)]
 pub struct TailByte(u8);
 
 impl TailByte {
@@ -70,7 +72,7 @@ impl TailByte {
     }
 }
 
-#[derive(Drop)]
+#[derive(Clone, Copy)]
 pub enum MaybeEot {
     Some(bool),
     None,

@@ -1,4 +1,6 @@
 // The functions exported to C, include/gomxeli.h: each calls a proved function and packs its answer into one number.
+#![tactic(auto)]
+
 pub mod answer;
 pub mod img;
 pub mod iq;

@@ -5,14 +5,14 @@ ghost use Rattle.index_entries.specs.Bytes.{word_at, entries, value, read, whole
 ghost use Rattle.index_entries.specs.Inner.{place_of, held_of};
 
 // The entry that has a key, or none.
-#[derive(Drop)]
+#[derive(Clone, Copy)]
 pub enum Place {
     At(usize),
     Nowhere,
 }
 
 // What an entry holds: a key and its value; a key whose value was handed back; nothing.
-#[derive(Drop)]
+#[derive(Clone, Copy)]
 pub enum Held {
     Value(u16, u32),
     Spent(u16),

@@ -1,5 +1,7 @@
 // `IndexQueue`'s calls over lent bytes. 1: the bytes are not whole. 13: sizes not allowed. 14: an insert not taken, with its key and value.
 // 15: a key without an entry. 16: a key whose value was handed back.
+#![tactic(auto)]
+
 ghost use Rattle.std.specs.Prelude.{◌≡◌, true, ◌<◌, length};
 ghost use Rattle.state.specs.Result.{answer};
 ghost use Rattle.multi_cycle_list.specs.Lists.{first, row};
@@ -16,7 +18,7 @@ use index_whole::whole;
 use multi_cycle_list::inner::{MaybeEntry, inner_back, inner_front};
 
 // An answer of a call. `NotTaken` has the key and the value of an insert; `Holds`, whether the key has an entry, or the value was stored.
-#[derive(Drop)]
+#[derive(Clone, Copy)]
 pub enum Answer {
     Refused(u8),
     NotTaken(u16, u32),
@@ -28,7 +30,7 @@ pub enum Answer {
 }
 
 // Where a key's entry is, in bytes that may not be whole.
-#[derive(Drop)]
+#[derive(Clone, Copy)]
 enum Found {
     NotWhole,
     Nowhere,
@@ -36,7 +38,7 @@ enum Found {
 }
 
 // The same, with the value; or that it was handed back.
-#[derive(Drop)]
+#[derive(Clone, Copy)]
 enum FoundValue {
     NotWhole,
     Nowhere,

@@ -1,4 +1,6 @@
 // Whether bytes are a whole key queue.
+#![tactic(auto)]
+
 ghost use Rattle.std.specs.Prelude.{◌≡◌, ◌+◌, ◌<◌, ◌≤◌, length};
 ghost use Rattle.state.specs.Seq.{all_b};
 ghost use Rattle.multi_cycle_list.specs.Inner.{unmarked};

@@ -1,5 +1,7 @@
 // `LoopBackInner` over lent bytes: the answers, whether bytes are whole, and what the calls do once they are. Inner
 // functions: other crates call them, and they may have preconditions.
+#![tactic(auto)]
+
 ghost use Rattle.std.specs.Prelude.{◌≡◌, true, false, ◌<◌, ◌≤◌, length, replicate};
 ghost use Rattle.entry_tree.specs.Pairs.{has_entry, is_entry, place_of};
 ghost use Rattle.entry_tree.specs.Places.{size};
@@ -16,7 +18,7 @@ use entry_tree::{insert, remove};
 use state::fill;
 
 // An answer of a call. `Started`: whether an entry is pointed at. `Pushed`: the entry named, and whether more follow.
-#[derive(Drop)]
+#[derive(Clone, Copy)]
 pub enum Answer {
     Refused(u8),
     Done,

@@ -1,4 +1,6 @@
 // `MultiClassQueue`'s calls over lent bytes. 1: the bytes are not whole. 13: a class or an entry past the size, or sizes not allowed.
+#![tactic(auto)]
+
 ghost use Rattle.std.specs.Prelude.{◌≡◌, ◌<◌, length};
 ghost use Rattle.state.specs.Result.{answer};
 ghost use Rattle.multi_class_queue.specs.Inner.{refusal, move_refusal};
@@ -11,7 +13,7 @@ use multi_cycle_list::inner::{
 use multi_cycle_list::whole::whole;
 
 // An answer of a call. `Is` has the entry, or the class, asked for; `Holds`, whether the class is empty.
-#[derive(Drop)]
+#[derive(Clone, Copy)]
 pub enum Answer {
     Refused(u8),
     Done,

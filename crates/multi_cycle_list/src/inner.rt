@@ -9,7 +9,7 @@ ghost use Rattle.multi_cycle_list.specs.declared.inner.MaybeEntry.TheVariants as
 
 use crate::cycle::{alone, is_bound, move_after, move_before, unbind};
 
-#[derive(Drop)]
+#[derive(Clone, Copy)]
 pub enum MaybeEntry {
     Some(u8),
     None,

@@ -1,11 +1,13 @@
 // Replays recorded calls: reads lines of four numbers, a call and its three numbers, from standard input, makes each call on
 // states of its own, and writes each answer. Its standard input and output are the Rust's own answers, recorded by oracle/compare.
+#![tactic(auto)]
+
 ghost use Rattle.std.specs.Prelude.{◌≡◌, ◌≤◌, length};
 
 use gomxeli::{img, iq, lb, leaves, mcq, reg, req, txm, txr};
 
 // The numbers of the line so far, the one being read, and the lengths of the list queue's and the key queue's bytes.
-#[derive(Drop)]
+#[derive(Clone, Copy)]
 struct Line {
     op: u64,
     a: u64,

@@ -1,4 +1,6 @@
 // `RegularInner` over lent bytes: the answers, and whether bytes are whole.
+#![tactic(auto)]
+
 ghost use Rattle.std.specs.Prelude.{◌≡◌, true, ◌≤◌, length, leb};
 ghost use Rattle.state.specs.Seq.{all_b};
 ghost use Rattle.entry_tree.specs.Pairs.{past};
@@ -14,7 +16,7 @@ use multi_cycle_list::whole::whole_marked;
 
 // An answer of a call. `Accepted` has the wake flag; `Started`, whether an entry is pointed at; `Pushed`, the entry named and whether
 // more follow.
-#[derive(Drop)]
+#[derive(Clone, Copy)]
 pub enum Answer {
     Refused(u8),
     Done,
@@ -28,7 +30,7 @@ pub enum Answer {
 }
 
 // What one inner step of a poll comes to.
-#[derive(Drop)]
+#[derive(Clone, Copy)]
 pub enum Popped {
     AddSubject(u16),
     RemoveSubjectRange(u16, u16),

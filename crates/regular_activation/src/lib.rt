@@ -1,5 +1,7 @@
 // Inner steps that say 'call again', many at once: entries from the front of the activation queue whose subjects are active. They leave the
 // queue one by one and are noted; then each tree changes in one pass.
+#![tactic(auto)]
+
 ghost use Rattle.std.specs.Prelude.{◌≡◌, true, false, cond, [], ◌+◌, ◌<◌, ◌≤◌, eqb, length, get_or, replicate};
 ghost use Rattle.entry_tree.specs.Pairs.{has_subject, in_order};
 ghost use Rattle.entry_tree.specs.Places as tree;

@@ -11,7 +11,7 @@ use multi_cycle_list::inner::inner_is_linked;
 
 // What the removal of an active entry makes of the gap that it leaves. A non-head leaves none; of a head a mark, if any, is withdrawn,
 // and then the next is marked, or the last gap is, or neither.
-#[derive(Drop)]
+#[derive(Clone, Copy)]
 pub enum Gap {
     Same,
     Withdrawn,

@@ -1,4 +1,6 @@
 // Demand 3 over whole lists of exported calls: the theorem is in specs/Runs.antt, an example that reaches its bound in specs/Example.antt.
+#![tactic(auto)]
+
 ghost use Rattle.regular_runs.specs.Runs.{Demand3};
 ghost use Rattle.regular_runs.specs.Example.{Reached};
 

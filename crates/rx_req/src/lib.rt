@@ -1,5 +1,7 @@
 // The registry of request reception over lent bytes. 1: the bytes are not whole. 2: an entry above 127. 3: a service above 511.
 // 5: registered already. 7: the service has an entry. 8: not registered.
+#![tactic(auto)]
+
 ghost use Rattle.std.specs.Prelude.{◌≡◌, length};
 ghost use Rattle.state.specs.Result.{answer};
 ghost use Rattle.rx_req.specs.Steps.{register, unregister, poll_push};
@@ -12,7 +14,7 @@ use entry_tree::{entry_at, first_on, has_entry, has_subject, insert, len, positi
 use state::fill;
 
 // An answer of a call. `Pushed`: the entry that gets the frame.
-#[derive(Drop)]
+#[derive(Clone, Copy)]
 pub enum Answer {
     Refused(u8),
     Done,

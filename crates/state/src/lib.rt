@@ -1,4 +1,6 @@
 // The lengths of the kinds of state, and the form that all calls on state bytes share: specs/ has the definitions.
+#![tactic(auto)]
+
 ghost use Rattle.std.specs.Prelude.{◌≡◌, length, replicate};
 ghost use Rattle.state.specs.Lengths.{Disjoint};
 

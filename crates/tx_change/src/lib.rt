@@ -1,4 +1,6 @@
 // What the transmit registries' calls do once the bytes are known whole. Inner functions: other crates call them, and they may have preconditions.
+#![tactic(auto)]
+
 ghost use Rattle.std.specs.Prelude.{◌≡◌, [], true, false, ◌<◌, ◌≤◌, length, get_or, replicate};
 ghost use Rattle.std.proofs.Math.Option.{none};
 ghost use Rattle.state.specs.Result.{answer};

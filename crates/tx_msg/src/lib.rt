@@ -1,6 +1,8 @@
 // The registry of message transmission over lent bytes. 1: the bytes are not whole. 2: an entry above 127. 3: a subject above 8,191, a
 // priority above 7, or an mtu other than 8 or 64. 10: a pick is open. 11: none is. 12: the frame does not fit the pick. 5: registered
 // already. 7: the subject has an entry. 8: not registered.
+#![tactic(auto)]
+
 ghost use Rattle.std.specs.Prelude.{◌≡◌, length};
 ghost use Rattle.state.specs.Seq.{all_b};
 ghost use Rattle.state.specs.Result.{answer};

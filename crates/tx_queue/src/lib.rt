@@ -1,5 +1,7 @@
 // `TxQueue` over lent bytes: the answers, an entry's queue, the queue that a pick takes, and whether bytes are whole. Inner
 // functions: other crates call them, and they may have preconditions.
+#![tactic(auto)]
+
 ghost use Rattle.std.specs.Prelude.{◌≡◌, true, ◌/◌, ◌<◌, ◌≤◌, length};
 ghost use Rattle.state.specs.Seq.{all_b};
 ghost use Rattle.multi_cycle_list.specs.Lists.{row};
@@ -16,7 +18,7 @@ use multi_cycle_list::whole::whole_marked;
 
 // An answer of a call. `Accepted` has the wake flag; `Picked`, the entry and its priority; `Settled`, the entry that had been picked and
 // the wake flag.
-#[derive(Drop)]
+#[derive(Clone, Copy)]
 pub enum Answer {
     Refused(u8),
     Done,

@@ -1,6 +1,8 @@
 // The registry of response transmission over lent bytes, which are a transmit queue's. 1: the bytes are not whole. 2: an entry above 127.
 // 3: a priority above 7, or an mtu other than 8 or 64. 10: a pick is open. 11: none is. 12: the frame does not fit the pick.
 // 5: registered already. 8: not registered.
+#![tactic(auto)]
+
 ghost use Rattle.std.specs.Prelude.{◌≡◌, length};
 ghost use Rattle.state.specs.Result.{answer};
 ghost use Rattle.tx_queue.specs.Steps.{reported, register, unregister, update, pick, settle};

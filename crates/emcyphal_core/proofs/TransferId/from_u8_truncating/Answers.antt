@@ -1,0 +1,6 @@
+use borrow.Author.Rules.{rules}
+use mathlib.Core.Path.{refl}
+use Rattle.emcyphal_core.proofs.TransferId.from_u8_truncating.Goals as goal
+
+pub returns : goal.returns
+returns c = refl

@@ -1,0 +1,12 @@
+use native.Mathlib.Omega.{arith}
+use Prim.Native.Nat.{ℕ, ◌-◌}
+use mathlib.Core.Path.{subst, ◌≡◌}
+use Rattle.entry_tree.specs.Inner.{Between}
+use Rattle.entry_tree.proofs.Moves.{between_all, between_up, between_down}
+use Rattle.entry_tree.proofs.upper_bound.Given as goal
+
+abbrev pub invariant-loop-low : goal.invariant-loop-low
+invariant-loop-low l = Between l.t l.subject l.low l.high
+
+abbrev pub decreases-loop-low : goal.decreases-loop-low
+decreases-loop-low l = l.high - l.low

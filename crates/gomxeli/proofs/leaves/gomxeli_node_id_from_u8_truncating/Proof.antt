@@ -1,9 +1,0 @@
-use mathlib.Core.Path.{ap, ◌∙◌}
-use Rattle.gomxeli.specs.Answers.{packed}
-use Rattle.gomxeli.proofs.leaves.gomxeli_node_id_from_u8_truncating.Statement.{statement}
-use Rattle.gomxeli.proofs.leaves.gomxeli_node_id_from_u8_truncating.Tie as tie
-
-pub gomxeli-node-id-from-u8-truncating-spec : {M : Type 1} → statement M
-gomxeli-node-id-from-u8-truncating-spec =
-    tie.close (tie.spec (λ c κs. tt) (λ c κs. tt) (λ c κs. tt)
-    (λ c. c.byte-answer.ensures ∙ ap (λ x. packed 0 0 x 0) (c.before.into-u8.ensures ∙ c.before.before.from-u8-truncating.ensures)))

@@ -1,0 +1,14 @@
+use mathlib.Core.Path.{ap, ◌∙◌}
+use mathlib.Core.Bool.{◌||◌}
+use lib.Dec.{eqb}
+use Rattle.emcyphal_core.specs.Priorities.{number}
+use Rattle.emcyphal_core.specs.Sets.{has, set_of}
+use Rattle.gomxeli.specs.Answers.{packed}
+use Rattle.gomxeli.proofs.Laws.{with-priority, above-seven}
+use Rattle.gomxeli.proofs.leaves.gomxeli_priority_set_insert.Goals as goal
+
+pub returns-in-Some : goal.returns-in-Some
+returns-in-Some c = with-priority (λ n. packed 0 0 (set_of (λ p. has c.args.bits p || eqb p n)) 0) c.args.priority c.try_from_u8.ensures c.in-Some.is (c.set_answer.ensures ∙ ap (λ x. packed 0 0 x 0) (c.insert.ensures ∙ ap (λ b. set_of (λ p. has b p || eqb p (number c.in-Some.p))) c.from_bits.ensures))
+
+pub returns-in-None : goal.returns-in-None
+returns-in-None c = above-seven c.args.priority _ c.try_from_u8.ensures c.in-None.is c.pack.ensures

@@ -1,8 +1,0 @@
-use mathlib.Core.Path.{ap, ◌∙◌}
-use Rattle.gomxeli.specs.Answers.{list_answer}
-use Rattle.gomxeli.proofs.mcq.gomxeli_mcq_front.Statement.{statement}
-use Rattle.gomxeli.proofs.mcq.gomxeli_mcq_front.Tie as tie
-
-pub gomxeli-mcq-front-spec : {M : Type 1} → statement M
-gomxeli-mcq-front-spec =
-    tie.close (tie.spec (λ c κs. tt) (λ c κs. tt) (λ c. c.list-answer.ensures ∙ ap list_answer c.before.front.ensures))

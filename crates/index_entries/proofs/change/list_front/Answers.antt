@@ -1,0 +1,14 @@
+use borrow.Author.Rules.{rules}
+use native.Mathlib.Omega.{arith}
+use Rattle.multi_cycle_list.specs.Lists.{moved_front}
+use Rattle.index_entries.proofs.Acts.{lent_class, lent_entry, put-list}
+use Rattle.index_entries.proofs.change.list_front.Goals as goal
+
+pub inner_move_front-requires : goal.inner_move_front-requires
+inner_move_front-requires c = let a = c.args in
+    let w = lent_class a.s.now c.requires.0 _ c.lists_end-e.ensures.0 0 (omega arith) in
+    (w.0, (w.1, lent_entry a.s.now c.requires.0 _ c.lists_end-e.ensures.0 a.i c.requires.1))
+
+pub returns : goal.returns
+returns c = let a = c.args in
+    put-list a.s.now c.requires.0 _ c.lists_end-e.ensures.0 (λ l. moved_front 0 a.i l) c.inner_move_front.new.s c.inner_move_front.ensures

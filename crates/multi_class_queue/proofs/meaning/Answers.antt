@@ -1,0 +1,5 @@
+use Rattle.multi_class_queue.proofs.Calls.{mean}
+use Rattle.multi_class_queue.proofs.meaning.Goals as goal
+
+pub returns : goal.returns
+returns c = mean

@@ -1,0 +1,21 @@
+use borrow.Author.Rules.{rules}
+use native.Mathlib.Omega.{arith}
+use Rattle.state.proofs.Tests.{byte_fits32}
+use Rattle.multi_cycle_list.proofs.WholeTools.{whole-sizes}
+use Rattle.multi_class_queue.proofs.Calls.{accepted, move_class, move_past, move_not}
+use Rattle.multi_class_queue.proofs.move_refusal.Goals as goal
+
+pub returns-then-n-ne0 : goal.returns-then-n-ne0
+returns-then-n-ne0 c = let a = ‹c.before.before.before› in move_class a.args.s.now a.args.class a.args.entry _ c.refusal-n.ensures c.if-n-ne0.true
+
+pub bounds-s-1 : goal.bounds-s-1
+bounds-s-1 c = let a = ‹c.before.before.before.before› in let z = whole-sizes a.args.s.now (accepted a.args.s.now 0 a.args.class _ c.refusal-n.ensures c.if-n-ne0.false).0 in omega arith
+
+pub overflow_cast-s : goal.overflow_cast-s
+overflow_cast-s c = byte_fits32 (c.type_inv.s _)
+
+pub returns-then-s-entry : goal.returns-then-s-entry
+returns-then-s-entry c = let a = ‹c.before.before.before.before.before› in move_past a.args.s.now a.args.class a.args.entry (accepted a.args.s.now 0 a.args.class _ c.refusal-n.ensures c.if-n-ne0.false) c.if-s-entry.true
+
+pub returns : goal.returns
+returns c = let a = ‹c.before.before.before.before.before› in move_not a.args.s.now a.args.class a.args.entry (accepted a.args.s.now 0 a.args.class _ c.refusal-n.ensures c.if-n-ne0.false) c.if-s-entry.false

@@ -1,0 +1,6 @@
+use borrow.Author.Rules.{rules}
+use native.Mathlib.Omega.{arith}
+use Rattle.regular_activation.proofs.slot_for.Goals as goal
+
+pub returns-then-fits : goal.returns-then-fits
+returns-then-fits c = λ h. (omega (arith, c.if-g-gt127.false), ‹c.before.fits2.ensures› c.if-fits.true)

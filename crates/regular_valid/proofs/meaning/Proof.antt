@@ -1,9 +1,0 @@
-use Rattle.regular_valid.proofs.Mean.{means}
-use Rattle.regular_valid.proofs.meaning.Statement.{statement}
-use Rattle.regular_valid.proofs.meaning.Tie as tie
-
-returns : tie.Need-returns
-returns c = means
-
-pub meaning-spec : {M : Type 1} → statement M
-meaning-spec = tie.close (tie.spec returns)

@@ -1,6 +1,6 @@
 -- A walk over a tree: where it starts, where it goes on, and the byte that holds it.
 use Prim.Native.Nat.{ℕ, zero, suc, ◌<◌, ◌≤◌}
-use mathlib.Core.Path.{◌≡◌, refl, sym, ap, ◌∙◌}
+use mathlib.Core.Path.{◌≡◌, refl, sym, ap, ◌∙◌, subst}
 use mathlib.Core.Logic.{◌≢◌}
 use mathlib.Core.List.{List, [], ◌∷◌}
 use mathlib.Core.Option.{Option, none, some}
@@ -71,18 +71,19 @@ none-some a q = let z : ◌≡◌ {A = ℕ} 0 1 = cc in omega arith
 
 pub first_entry : (x : ℕ) (l : List Pair) → first l ≡ some x → 0 < count (is_entry x) l
 first_entry x [] q = absurd (none-some x q)
-first_entry x (p ∷ l) q = rw (← (some_is p.entry x q)) (count-self p l)
+first_entry x (p ∷ l) q = subst (λ (z : ℕ). 0 < count (is_entry z) (p ∷ l)) (some_is p.entry x q) (count-self p l)
 
 pub next_in : (s x : ℕ) (r : List Pair) → next_on s r ≡ some x → 0 < count (is_entry x) r
 next_in s x [] = λ q. absurd (none-some x q)
 next_in s x (p ∷ r) =
     by_cond (λ (o : Option ℕ). o ≡ some x → 0 < count (is_entry x) (p ∷ r)) (ltb s p.subject) (λ t q. absurd (none-some x q))
-    (λ t q. rw (← (some_is p.entry x q)) (count-self p r))
+    (λ t q. subst (λ (z : ℕ). 0 < count (is_entry z) (p ∷ r)) (some_is p.entry x q) (count-self p r))
 
 pub first-in : (s x : ℕ) (l : List Pair) → first_on s l ≡ some x → 0 < count (is_entry x) l
 first-in s x [] = λ q. absurd (none-some x q)
 first-in s x (p ∷ l) =
-    by_cond (λ (o : Option ℕ). o ≡ some x → 0 < count (is_entry x) (p ∷ l)) (eqb s p.subject) (λ t q. rw (← (some_is p.entry x q)) (count-self p l))
+    by_cond (λ (o : Option ℕ). o ≡ some x → 0 < count (is_entry x) (p ∷ l)) (eqb s p.subject)
+    (λ t q. subst (λ (z : ℕ). 0 < count (is_entry z) (p ∷ l)) (some_is p.entry x q) (count-self p l))
     (λ t q. omega (arith, first-in s x l q))
 
 -- ---- the pairs after an entry's place

@@ -6,4 +6,4 @@ use lib.ListN.{length}
 use Rattle.calls.proofs.main.Goals as goal
 
 pub loop-turns-init : goal.loop-turns-init
-loop-turns-init c = ((‹c.before›.«open».auto.0, (refl, refl)), omega arith)
+loop-turns-init c = ((c.«open».auto.0, (refl, refl)), omega arith)

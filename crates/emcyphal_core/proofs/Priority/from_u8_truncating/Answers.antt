@@ -26,4 +26,4 @@ pub returns-in-6 : goal.returns-in-6
 returns-in-6 c = rw c.in-6.is
 
 pub returns-in_default : goal.returns-in_default
-returns-in_default c = let q : c.args.code % 8 ≡ 7 = seven (c.args.code % 8) (omega arith) c.in_default.rest in rw q
+returns-in_default c = let q : c.args.code % 8 ≡ 7 = seven (c.args.code % 8) (omega arith) c.in_default.in_default-own.rest in rw q

@@ -6,4 +6,4 @@ pub shape_of-image : goal.shape_of-image
 shape_of-image c = c.image-1.given
 
 pub returns : goal.returns
-returns c = (c.image_answer.ensures ∙ ap image_answer ‹c.before.before.before›.«open».ensures.0, ‹c.before.before.before›.«open».ensures.1)
+returns c = (c.image_answer.ensures ∙ ap image_answer c.«open».ensures.0, c.«open».ensures.1)

@@ -6,4 +6,4 @@ pub shape_of-s : goal.shape_of-s
 shape_of-s c = c.s-1.given
 
 pub returns : goal.returns
-returns c = (c.key_answer.ensures ∙ ap key_answer ‹c.before.before.before›.«open».ensures.0, ‹c.before.before.before›.«open».ensures.1)
+returns c = (c.key_answer.ensures ∙ ap key_answer c.«open».ensures.0, c.«open».ensures.1)

@@ -7,11 +7,10 @@ use Rattle.multi_cycle_list.proofs.Changes.{front_in, second_is}
 use Rattle.multi_cycle_list.proofs.inner.inner_second.Goals as goal
 
 pub node-i-requires : goal.node-i-requires
-node-i-requires c = let a = ‹c.before› in (a.requires.0, front_in a.args.s.now a.args.class a.requires.0 a.requires.1.0 a.args.front a.requires.1.1)
+node-i-requires c = (c.requires.0, front_in c.args.s.now c.args.class c.requires.0 c.requires.1.0 c.args.front c.requires.1.1)
 
 pub returns : goal.returns
-returns c = let a = ‹c.before.before.before› in
-    let s = a.args.s.now in
+returns c =     let s = c.args.s.now in
     c.entry_at.ensures
     ∙ ap (λ (i : ℕ). as_entry s (next s i)) c.node-i.ensures.0
-    ∙ second_is s a.args.class a.requires.0 a.requires.1.0 a.args.front a.requires.1.1
+    ∙ second_is s c.args.class c.requires.0 c.requires.1.0 c.args.front c.requires.1.1

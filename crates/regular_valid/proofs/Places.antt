@@ -1,7 +1,7 @@
 -- The place of an entry, the order of pairs, and the walk.
 use Prim.Native.Nat.{ℕ, suc, ◌≤◌, ◌<◌}
-use mathlib.Core.Path.{◌≡◌, refl, sym}
-use mathlib.Core.Bool.{Bool, ◌&&◌}
+use mathlib.Core.Path.{◌≡◌, refl, sym, subst}
+use mathlib.Core.Bool.{Bool, true, false, cond, ◌&&◌}
 use mathlib.Core.List.{List, [], ◌∷◌}
 use native.Mathlib.Omega.{arith}
 use Rattle.multi_cycle_list.specs.Lists as lists
@@ -14,13 +14,19 @@ use Rattle.regular_valid.proofs.Good.{Good, gnil, gcons, find-from}
 
 -- ---- a place
 
+-- the place's subject is one of the list, where b says whether the first pair is the entry's
+abbrev place_on : ℕ → ℕ → Pair → List Pair → Bool → Type 0
+place_on e from p l b = 0 < count (on_subject (cond b (record { from = from; subject = p.subject; rest = l }) (find e (suc p.subject) l)).subject) (p ∷ l)
+
 -- its subject is one of the list
 pub find-on : (e from : ℕ) (l : List Pair) → 0 < count (is_entry e) l → 0 < count (on_subject (find e from l).subject) l
 find-on e from [] m = absurd (omega (arith, m))
 find-on e from (p ∷ l) m =
     elim (compare_eq e p.entry) [
-      | same q t ↦ rw (t, eqb-self p.subject) (omega arith)
-      | diff n t ↦ rw t (omega (arith, find-on e (suc p.subject) l (omega (arith, rw t at m))))
+      | same q t ↦ let z : place_on e from p l true = rw (eqb-self p.subject) (omega arith) in subst (place_on e from p l) (sym t) z
+      | diff n t ↦
+          let z : place_on e from p l false = omega (arith, find-on e (suc p.subject) l (omega (arith, rw t at m))) in
+          subst (place_on e from p l) (sym t) z
     ]
 
 -- it is that of the pair that is there

@@ -1,8 +1,8 @@
 -- The pairs that the bytes of a tree mean.
-use Prim.Native.Nat.{ℕ, suc, ◌+◌, ◌-◌, ◌*◌, ◌<◌, ◌≤◌}
+use Prim.Native.Nat.{ℕ, suc, ◌-◌, ◌<◌, ◌≤◌}
 use mathlib.Core.Path.{◌≡◌, sym, ap, ◌∙◌}
 use mathlib.Core.Logic.{◌≢◌}
-use mathlib.Core.List.{List, ◌∷◌}
+use mathlib.Core.List.{List}
 use mathlib.Core.Bool.{Bool, true, false}
 use native.Mathlib.Omega.{arith}
 use lib.ListN.{length, get_or}
@@ -12,7 +12,7 @@ use mir.Val.{Fits}
 use mir.Syntax.{w8}
 use Rattle.state.specs.Result.{Bytes}
 use Rattle.state.proofs.Seq.{length-each, get_d_each}
-use Rattle.entry_tree.specs.Pairs.{Pair, any, is_entry, place_of, past}
+use Rattle.entry_tree.specs.Pairs.{Pair, any, is_entry, place_of}
 use Rattle.entry_tree.specs.Places.{size, entry_at, subject_at, pair_at, read}
 use Rattle.entry_tree.specs.Inner.{position}
 use Rattle.entry_tree.proofs.Lists.{none, any-position, position-true, position_at, position-none, place-subject, place-from, from_first, from_next}

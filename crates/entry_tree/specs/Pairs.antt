@@ -1,5 +1,5 @@
 -- An entry tree in plain words: a list of entries, each with its subject, in subject order.
-use Rattle.std.specs.Prelude.{ℕ, suc, ◌+◌, List, [], ◌∷◌, Bool, true, false, cond, ◌&&◌, eqb, leb, ltb}
+use Rattle.std.specs.Prelude.{ℕ, suc, ◌+◌, List, [], ◌∷◌, Bool, true, cond, ◌&&◌, eqb, leb, ltb}
 use Rattle.state.specs.Seq.{to_nat}
 
 pub record Pair : Type 0 where

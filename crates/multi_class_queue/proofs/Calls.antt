@@ -1,5 +1,5 @@
 -- What each call comes to: its answer and its bytes, on plain lists.
-use Prim.Native.Nat.{ℕ, zero, suc, ◌+◌, ◌-◌, ◌<◌, ◌≤◌}
+use Prim.Native.Nat.{ℕ, zero, suc, ◌+◌, ◌<◌, ◌≤◌}
 use mathlib.Core.Path.{◌≡◌, refl, sym, ap, ◌∙◌, subst}
 use mathlib.Core.Logic.{◌≢◌}
 use mathlib.Core.List.{List, [], ◌∷◌, ◌++◌}
@@ -27,7 +27,6 @@ use Rattle.multi_cycle_list.proofs.WholeTools.{whole-sizes}
 use Rattle.multi_cycle_list.proofs.Chain.{Chain}
 use Rattle.multi_cycle_list.proofs.Sound.{linked_in, sound}
 use Rattle.multi_cycle_list.proofs.Meaning.{list_at}
-use Rattle.multi_cycle_list.proofs.FreshMeaning.{opened}
 use Rattle.multi_cycle_list.proofs.Laid.{laid_read, laid_whole, read_laid, read-valid, whole-bytes}
 use Rattle.multi_cycle_list.proofs.Changes.{rows-length, remove-valid, front-valid, back-valid, empty-valid}
 

@@ -17,7 +17,7 @@ use Rattle.entry_tree.specs.Walks.{is_some, first_on}
 use Rattle.entry_tree.specs.Inner as inner
 use Rattle.entry_tree.proofs.Count.{true-any}
 use Rattle.entry_tree.proofs.Finding.{found-is, place_in}
-use Rattle.entry_tree.proofs.Walking.{walk_at, walk_nowhere}
+use Rattle.entry_tree.proofs.Walking.{walk_at_lem, walk_nowhere}
 use Rattle.loop_back.specs.Registry.{Registry, fresh}
 use Rattle.loop_back.specs.Bytes.{tree_part, whole_b, read, laid}
 use Rattle.loop_back.specs.Steps.{joins, register, leaves, unregister, goes_on, with_walk, hub_push_start, push_next, hub_push_next}
@@ -114,7 +114,7 @@ module _ (s : List ℕ) (h : whole_b s ≡ true) where
 
     module _ (b : e ≤ 127) where
       pointed : m.walk ≡ some e
-      pointed = walk_at e e refl (omega arith)
+      pointed = walk_at_lem e e refl (omega arith)
 
       pub pointed-place : (i : ℕ) → i ≡ position (is_entry e) m.entries → i < tree.size T
       pointed-place i q = omega (arith, place_in T (is_entry e) (true-any (is_entry e) m.entries ((facts_of m (whole_of s h).means).walks e pointed)))

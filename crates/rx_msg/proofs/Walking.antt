@@ -26,7 +26,7 @@ use Rattle.regular_valid.proofs.Round.{tail_of, split-whole, laid_from, laid_rea
 use Rattle.entry_tree.specs.Inner.{position, with_walk}
 use Rattle.rx_msg.proofs.Calls.{turned_away, changes}
 use Rattle.entry_tree.proofs.Finding.{place_in, place-next}
-use Rattle.entry_tree.proofs.Walking.{walk_at, walk_nowhere}
+use Rattle.entry_tree.proofs.Walking.{walk_at_lem, walk_nowhere}
 
 -- the walk's byte
 pub walk-laid : (s : List ℕ) → Bytes s → whole_b s ≡ true → (w : Option ℕ) → with_walk 1035 s w ≡ laid (steps.with_walk w (read s)) s
@@ -78,7 +78,7 @@ module _ (s : List ℕ) (y : Bytes s) (h : whole_b s ≡ true) (e : ℕ) (qe : e
 
   module _ (l : e ≤ 127) where
     pointed : (read s).walk ≡ some e
-    pointed = walk_at (get_or s 1035 0) e (sym qe) (omega arith)
+    pointed = walk_at_lem (get_or s 1035 0) e (sym qe) (omega arith)
 
     pub pointed-place : (i : ℕ) → i ≡ position (is_entry e) (tree.read (active_part s)) → i < size (active_part s)
     pointed-place i q = omega (arith, place_in (active_part s) (is_entry e) (true-any (is_entry e) (tree.read (active_part s)) ((read-facts s h).walks e pointed)))

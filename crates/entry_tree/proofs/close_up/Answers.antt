@@ -1,7 +1,6 @@
 use native.Mathlib.Omega.{arith}
-use Prim.Native.Nat.{◌-◌, ◌*◌, ◌≤◌}
+use Prim.Native.Nat.{◌-◌, ◌*◌}
 use Rattle.entry_tree.specs.Places.{size}
-use Rattle.entry_tree.specs.Inner.{ClosedUp}
 use Rattle.entry_tree.proofs.Moves.{closed_none, closed-more, closed_end}
 use Rattle.entry_tree.proofs.close_up.Goals as goal
 

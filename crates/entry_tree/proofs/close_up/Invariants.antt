@@ -1,8 +1,5 @@
-use native.Mathlib.Omega.{arith}
-use Prim.Native.Nat.{◌-◌, ◌*◌, ◌≤◌}
-use Rattle.entry_tree.specs.Places.{size}
+use Prim.Native.Nat.{◌-◌, ◌≤◌}
 use Rattle.entry_tree.specs.Inner.{ClosedUp}
-use Rattle.entry_tree.proofs.Moves.{closed_none, closed-more, closed_end}
 use Rattle.entry_tree.proofs.close_up.Given as goal
 
 abbrev pub invariant-loop-k : goal.invariant-loop-k

@@ -1,4 +1,3 @@
-use borrow.Author.Rules.{rules}
 use Rattle.entry_tree.specs.Pairs.{is_entry}
 use Rattle.entry_tree.proofs.Finding.{found-is}
 use Rattle.entry_tree.proofs.has_entry.Goals as goal

@@ -1,4 +1,3 @@
-use borrow.Author.Rules.{rules}
 use Rattle.entry_tree.specs.Pairs.{on_subject}
 use Rattle.entry_tree.proofs.Finding.{found-is}
 use Rattle.entry_tree.proofs.has_subject.Goals as goal

@@ -1,4 +1,3 @@
-use borrow.Author.Rules.{rules}
 use Rattle.state.proofs.Tests.{byte_fits}
 use mathlib.Core.Path.{refl}
 use native.Mathlib.Omega.{arith}

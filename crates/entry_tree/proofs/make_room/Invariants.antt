@@ -1,7 +1,5 @@
-use native.Mathlib.Omega.{arith}
 use Prim.Native.Nat.{◌≤◌}
 use Rattle.entry_tree.specs.Inner.{RoomMade}
-use Rattle.entry_tree.proofs.Moves.{room-none, room-more, room_end}
 use Rattle.entry_tree.proofs.make_room.Given as goal
 
 abbrev pub invariant-loop-k : goal.invariant-loop-k

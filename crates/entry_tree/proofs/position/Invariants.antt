@@ -1,11 +1,8 @@
-use borrow.Author.Count.{below_none, below_more}
-use native.Mathlib.Omega.{arith}
 use mathlib.Core.Path.{◌≡◌}
 use mathlib.Core.Bool.{false}
 use Prim.Native.Nat.{ℕ, ◌-◌, ◌≤◌, ◌<◌}
 use Rattle.entry_tree.specs.Pairs.{is_entry}
-use Rattle.entry_tree.specs.Places.{entry_at, pair_at}
-use Rattle.entry_tree.proofs.Reading.{is_same, is-other, found_at, found_none}
+use Rattle.entry_tree.specs.Places.{pair_at}
 use Rattle.entry_tree.proofs.position.Given as goal
 
 abbrev pub invariant-loop-i : goal.invariant-loop-i

@@ -1,5 +1,5 @@
 use native.Mathlib.Omega.{arith}
-use Prim.Native.Nat.{ℕ, ◌-◌}
+use Prim.Native.Nat.{ℕ}
 use mathlib.Core.Path.{subst, ◌≡◌}
 use Rattle.entry_tree.specs.Inner.{Between}
 use Rattle.entry_tree.proofs.Moves.{between_all, between_up, between_down}

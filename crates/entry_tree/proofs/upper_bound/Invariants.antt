@@ -1,8 +1,5 @@
-use native.Mathlib.Omega.{arith}
-use Prim.Native.Nat.{ℕ, ◌-◌}
-use mathlib.Core.Path.{subst, ◌≡◌}
+use Prim.Native.Nat.{◌-◌}
 use Rattle.entry_tree.specs.Inner.{Between}
-use Rattle.entry_tree.proofs.Moves.{between_all, between_up, between_down}
 use Rattle.entry_tree.proofs.upper_bound.Given as goal
 
 abbrev pub invariant-loop-low : goal.invariant-loop-low

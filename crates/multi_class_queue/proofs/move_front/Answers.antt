@@ -1,4 +1,3 @@
-use borrow.Author.Rules.{rules}
 use mathlib.Core.Path.{refl}
 use Rattle.multi_class_queue.specs.Calls.{move_front}
 use Rattle.multi_cycle_list.specs.Lists.{moved_front}
@@ -15,4 +14,4 @@ inner_move_front-requires c = let m = move_accepted c.args.s.now c.args.class c.
 
 pub returns : goal.returns
 unfolding move_front
-returns c =     move_changed c.args.s.now c.args.class c.args.entry _ c.move_refusal-n.ensures (move_front c.args.class c.args.entry) (moved_front c.args.class c.args.entry (read c.args.s.now)) refl c.if-n-ne0.false _ c.inner_move_front.ensures
+returns c = move_changed c.args.s.now c.args.class c.args.entry _ c.move_refusal-n.ensures (move_front c.args.class c.args.entry) (moved_front c.args.class c.args.entry (read c.args.s.now)) refl c.if-n-ne0.false _ c.inner_move_front.ensures

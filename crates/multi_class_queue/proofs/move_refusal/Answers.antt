@@ -1,4 +1,3 @@
-use borrow.Author.Rules.{rules}
 use native.Mathlib.Omega.{arith}
 use Rattle.state.proofs.Tests.{byte_fits32}
 use Rattle.multi_cycle_list.proofs.WholeTools.{whole-sizes}

@@ -1,4 +1,3 @@
-use borrow.Author.Rules.{rules}
 use mathlib.Core.Path.{sym, ap}
 use Rattle.multi_class_queue.specs.Calls.{named}
 use Rattle.multi_class_queue.proofs.named.Goals as goal

@@ -1,8 +1,6 @@
-use borrow.Author.Rules.{rules}
 use mathlib.Core.Path.{◌∙◌}
 use Rattle.multi_cycle_list.proofs.WholeTools.{of_allowed}
 use Rattle.multi_class_queue.proofs.Calls.{opens, open_sizes, open_length, open_done, sizes-below, sizes-classes, sizes-entries}
-use borrow.Author.Rules.{rules}
 use Rattle.multi_class_queue.proofs.open.Goals as goal
 
 pub returns-then-classes-lt1 : goal.returns-then-classes-lt1

@@ -1,10 +1,6 @@
-use native.Mathlib.Omega.{arith}
 use Prim.Native.Nat.{ℕ, ◌-◌, ◌≤◌, ◌<◌}
-use mathlib.Core.Path.{◌≡◌, refl, sym, ◌∙◌}
-use lib.ListN.{length, get_or, length-set}
-use lib.Seq.{ext_get_or}
-use borrow.Author.Count.{below_none}
-use Rattle.state.proofs.Filled.{copied_more}
+use mathlib.Core.Path.{◌≡◌}
+use lib.ListN.{length, get_or}
 use Rattle.state.proofs.copy.Given as goal
 
 abbrev pub invariant-loop-i : goal.invariant-loop-i

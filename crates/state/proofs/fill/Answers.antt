@@ -1,8 +1,6 @@
 use native.Mathlib.Omega.{arith}
-use Prim.Native.Nat.{ℕ, ◌+◌, ◌-◌}
-use mathlib.Core.Path.{◌≡◌, refl, ◌∙◌}
-use Prim.Native.Nat.{◌≤◌, ◌<◌}
-use lib.ListN.{length, get_or, length-set}
+use mathlib.Core.Path.{refl, ◌∙◌}
+use lib.ListN.{length, length-set}
 use Rattle.state.proofs.Filled.{filled_more, filled-all}
 use borrow.Author.Count.{below_none}
 use Rattle.state.proofs.fill.Goals as goal

@@ -1,10 +1,7 @@
-use native.Mathlib.Omega.{arith}
-use Prim.Native.Nat.{ℕ, ◌+◌, ◌-◌}
-use mathlib.Core.Path.{◌≡◌, refl, ◌∙◌}
+use Prim.Native.Nat.{ℕ, ◌-◌}
+use mathlib.Core.Path.{◌≡◌}
 use Prim.Native.Nat.{◌≤◌, ◌<◌}
-use lib.ListN.{length, get_or, length-set}
-use Rattle.state.proofs.Filled.{filled_more, filled-all}
-use borrow.Author.Count.{below_none}
+use lib.ListN.{length, get_or}
 use Rattle.state.proofs.fill.Given as goal
 
 abbrev pub invariant-loop-i : goal.invariant-loop-i

@@ -1,4 +1,3 @@
-use borrow.Author.Rules.{rules}
 use Rattle.entry_tree.proofs.Walking.{walk-to, walk_ends, walk-ended}
 use Rattle.entry_tree.proofs.walk.set_walk.Goals as goal
 

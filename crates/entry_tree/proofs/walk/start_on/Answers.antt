@@ -1,4 +1,3 @@
-use borrow.Author.Rules.{rules}
 use Rattle.entry_tree.proofs.Walking.{start-at, start_none}
 use Rattle.entry_tree.proofs.walk.start_on.Goals as goal
 

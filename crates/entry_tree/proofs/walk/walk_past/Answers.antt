@@ -1,4 +1,3 @@
-use borrow.Author.Rules.{rules}
 use mathlib.Core.Path.{◌∙◌}
 use Rattle.entry_tree.specs.Inner.{walk_at}
 use Rattle.entry_tree.proofs.Walking.{walk-past, walk-stays}

@@ -1,9 +1,8 @@
-use Prim.Native.Nat.{◌+◌, ◌-◌, ◌<◌}
-use mathlib.Core.Path.{◌≡◌, sym, ◌∙◌}
+use mathlib.Core.Path.{sym, ◌∙◌}
 use native.Mathlib.Omega.{arith}
-use Rattle.entry_tree.specs.Places.{size, pair_at}
+use Rattle.entry_tree.specs.Places.{pair_at}
 use Rattle.entry_tree.proofs.Passing.{fits_of}
-use Rattle.entry_tree.proofs.Turns.{Turn, turn_first, turn_fails, turn_again, turn_end}
+use Rattle.entry_tree.proofs.Turns.{turn_first, turn_fails, turn_again, turn_end}
 use Rattle.entry_tree.proofs.whole.pairs_ok.Goals as goal
 
 pub loop-i-init : goal.loop-i-init

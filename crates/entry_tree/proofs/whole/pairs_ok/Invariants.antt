@@ -1,9 +1,7 @@
-use Prim.Native.Nat.{◌+◌, ◌-◌, ◌<◌}
-use mathlib.Core.Path.{◌≡◌, sym, ◌∙◌}
-use native.Mathlib.Omega.{arith}
-use Rattle.entry_tree.specs.Places.{size, pair_at}
-use Rattle.entry_tree.proofs.Passing.{fits_of}
-use Rattle.entry_tree.proofs.Turns.{Turn, turn_first, turn_fails, turn_again, turn_end}
+use Prim.Native.Nat.{◌-◌}
+use mathlib.Core.Path.{◌≡◌}
+use Rattle.entry_tree.specs.Places.{size}
+use Rattle.entry_tree.proofs.Turns.{Turn}
 use Rattle.entry_tree.proofs.whole.pairs_ok.Given as goal
 
 abbrev pub invariant-loop-i : goal.invariant-loop-i

@@ -1,4 +1,3 @@
-use borrow.Author.Rules.{rules}
 use mathlib.Core.Path.{sym}
 use Rattle.entry_tree.proofs.Turns.{walk_none, walk-some}
 use Rattle.entry_tree.proofs.whole.pointed.Goals as goal

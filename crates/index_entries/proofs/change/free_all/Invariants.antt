@@ -1,11 +1,8 @@
-use native.Mathlib.Omega.{arith}
-use Prim.Native.Nat.{ℕ, ◌+◌, ◌-◌}
-use mathlib.Core.Path.{◌≡◌, sym, ap, ◌∙◌}
-use Prim.Native.Nat.{◌≤◌, ◌<◌}
-use lib.ListN.{length}
+use Prim.Native.Nat.{◌-◌}
+use mathlib.Core.Path.{◌≡◌}
+use Prim.Native.Nat.{◌≤◌}
 use Rattle.multi_cycle_list.specs.Laid as lists
 use Rattle.index_entries.specs.Keys.{free_first}
-use Rattle.index_entries.proofs.Fresh.{none-laid, next_requires, next-is, first-length}
 use Rattle.index_entries.proofs.change.free_all.Given as goal
 
 abbrev pub invariant-loop-i : goal.invariant-loop-i

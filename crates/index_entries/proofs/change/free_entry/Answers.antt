@@ -1,7 +1,6 @@
-use borrow.Author.Rules.{rules}
 use native.Mathlib.Omega.{arith}
-use Prim.Native.Nat.{ℕ, ◌+◌, ◌-◌, ◌*◌}
-use mathlib.Core.Path.{◌≡◌, sym, ap, ◌∙◌}
+use Prim.Native.Nat.{ℕ, ◌+◌, ◌*◌}
+use mathlib.Core.Path.{sym, ap, ◌∙◌}
 use Rattle.state.proofs.Tests.{byte_fits}
 use Rattle.index_entries.proofs.Facts.{facts_of}
 use mathlib.Core.List.{List}

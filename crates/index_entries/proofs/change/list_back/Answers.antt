@@ -1,4 +1,3 @@
-use borrow.Author.Rules.{rules}
 use Rattle.multi_cycle_list.specs.Lists.{moved_back}
 use Rattle.index_entries.proofs.Acts.{lent_class, lent_entry, put-list}
 use Rattle.index_entries.proofs.change.list_back.Goals as goal

@@ -1,4 +1,3 @@
-use borrow.Author.Rules.{rules}
 use native.Mathlib.Omega.{arith}
 use Rattle.multi_cycle_list.specs.Lists.{without_entry}
 use Rattle.index_entries.proofs.Acts.{lent_class, lent_entry, put-list}

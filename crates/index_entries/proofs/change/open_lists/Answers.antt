@@ -1,5 +1,4 @@
-use Prim.Native.Nat.{◌+◌, ◌-◌}
-use mathlib.Core.Path.{◌≡◌, ◌∙◌}
+use mathlib.Core.Path.{◌∙◌}
 use Rattle.index_entries.proofs.Fresh.{lists-fit}
 use Rattle.index_entries.proofs.change.open_lists.Goals as goal
 

@@ -1,7 +1,5 @@
-use borrow.Author.Rules.{rules}
 use native.Mathlib.Omega.{arith}
-use Prim.Native.Nat.{◌+◌, ◌-◌}
-use mathlib.Core.Path.{◌≡◌, ◌∙◌}
+use mathlib.Core.Path.{◌∙◌}
 use Rattle.index_entries.proofs.Facts.{facts_of}
 use Rattle.multi_cycle_list.specs.Lists.{moved_back}
 use Rattle.index_entries.specs.Bytes.{read}

@@ -1,7 +1,5 @@
-use borrow.Author.Rules.{rules}
 use native.Mathlib.Omega.{arith}
-use Prim.Native.Nat.{◌+◌, ◌-◌}
-use mathlib.Core.Path.{◌≡◌, ◌∙◌}
+use mathlib.Core.Path.{◌∙◌}
 use Rattle.state.proofs.Tests.{byte_fits}
 use Rattle.index_entries.proofs.Facts.{facts_of}
 use Rattle.index_entries.proofs.Acts.{bytes_of, value-laid}

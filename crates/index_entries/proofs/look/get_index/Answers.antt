@@ -1,6 +1,5 @@
 use native.Mathlib.Omega.{arith}
-use Prim.Native.Nat.{◌+◌, ◌-◌}
-use mathlib.Core.Path.{◌≡◌, sym, ap}
+use mathlib.Core.Path.{sym, ap}
 use Rattle.state.proofs.Tests.{byte_fits}
 use Rattle.index_entries.specs.Inner.{place_of}
 use Rattle.index_entries.proofs.Facts.{facts_of, found-index, found-no-index, found-past}

@@ -1,9 +1,5 @@
-use borrow.Author.Rules.{rules}
 use native.Mathlib.Omega.{arith}
-use Prim.Native.Nat.{◌+◌, ◌-◌}
-use mathlib.Core.Path.{◌≡◌}
 use Rattle.state.proofs.Tests.{byte_fits}
-use Rattle.index_entries.specs.Bytes.{entries, key_word, value}
 use Rattle.index_entries.proofs.Facts.{facts_of}
 use Rattle.index_entries.proofs.Held.{held-value, held-spent, held-free}
 use Rattle.index_entries.proofs.look.held_at.Goals as goal

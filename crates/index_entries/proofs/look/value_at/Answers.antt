@@ -1,6 +1,4 @@
 use native.Mathlib.Omega.{arith}
-use Prim.Native.Nat.{◌+◌, ◌-◌}
-use mathlib.Core.Path.{◌≡◌}
 use Rattle.state.proofs.Tests.{byte_fits}
 use Rattle.index_entries.proofs.Facts.{facts_of}
 use Rattle.index_entries.proofs.look.value_at.Goals as goal

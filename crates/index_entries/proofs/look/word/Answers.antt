@@ -1,7 +1,6 @@
-use borrow.Author.Rules.{rules}
 use native.Mathlib.Omega.{arith}
-use Prim.Native.Nat.{◌+◌, ◌-◌}
-use mathlib.Core.Path.{◌≡◌, refl}
+use Prim.Native.Nat.{◌+◌}
+use mathlib.Core.Path.{refl}
 use Rattle.state.proofs.Tests.{byte_fits}
 use Rattle.index_entries.proofs.look.word.Goals as goal
 

@@ -1,11 +1,7 @@
-use borrow.Author.Rules.{rules}
-use Prim.Native.Nat.{ℕ, ◌+◌, ◌-◌, ◌≤◌}
-use native.Mathlib.Omega.{arith}
-use native.Mathlib.Numerals.{add-one}
-use mathlib.Core.Path.{◌≡◌, refl, sym, ap, ◌∙◌}
-use mathlib.Core.List.{List}
+use Prim.Native.Nat.{◌-◌, ◌≤◌}
+use mathlib.Core.Path.{◌≡◌}
 use lib.ListN.{length}
-use Rattle.multi_cycle_list.specs.Inner.{link_b, alone_to}
+use Rattle.multi_cycle_list.specs.Inner.{alone_to}
 use Rattle.multi_cycle_list.proofs.cycle.alone.Given as goal
 
 abbrev pub invariant-loop-k : goal.invariant-loop-k

@@ -1,4 +1,3 @@
-use borrow.Author.Rules.{rules}
 use mathlib.Core.Path.{refl}
 use Rattle.state.proofs.Tests.{byte_fits}
 use Rattle.multi_cycle_list.proofs.cycle.link_at.Goals as goal

@@ -1,4 +1,3 @@
-use borrow.Author.Rules.{rules}
 use Rattle.multi_cycle_list.proofs.cycle.unbind.Goals as goal
 
 pub returns : goal.returns

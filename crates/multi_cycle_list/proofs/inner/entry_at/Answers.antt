@@ -1,4 +1,3 @@
-use borrow.Author.Rules.{rules}
 use borrow.Author.Tests.{lt-ltb, le-ltb}
 use Rattle.multi_cycle_list.proofs.inner.entry_at.Goals as goal
 

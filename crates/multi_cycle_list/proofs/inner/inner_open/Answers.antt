@@ -1,10 +1,8 @@
-use borrow.Author.Rules.{rules}
 use native.Mathlib.Omega.{arith}
 use mathlib.Core.Path.{◌∙◌}
 use lib.ListN.{length-set}
 use Rattle.multi_cycle_list.proofs.WholeTools.{allowed_of}
 use Rattle.multi_cycle_list.proofs.Changes.{fresh}
-use borrow.Author.Rules.{rules}
 use Rattle.multi_cycle_list.proofs.inner.inner_open.Goals as goal
 
 pub overflow_cast-s : goal.overflow_cast-s

@@ -1,4 +1,3 @@
-use borrow.Author.Rules.{rules}
 use mathlib.Core.Path.{◌∙◌, ap}
 use Prim.Native.Nat.{ℕ}
 use Rattle.multi_cycle_list.specs.Inner.{as_entry}
@@ -10,7 +9,7 @@ pub node-i-requires : goal.node-i-requires
 node-i-requires c = (c.requires.0, front_in c.args.s.now c.args.class c.requires.0 c.requires.1.0 c.args.front c.requires.1.1)
 
 pub returns : goal.returns
-returns c =     let s = c.args.s.now in
+returns c = let s = c.args.s.now in
     c.entry_at.ensures
     ∙ ap (λ (i : ℕ). as_entry s (next s i)) c.node-i.ensures.0
     ∙ second_is s c.args.class c.requires.0 c.requires.1.0 c.args.front c.requires.1.1

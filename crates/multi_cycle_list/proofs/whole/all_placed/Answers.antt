@@ -1,11 +1,8 @@
 use borrow.Author.Rules.{rules}
-use Prim.Native.Nat.{ℕ, ◌+◌, ◌-◌, ◌<◌, ◌≤◌}
 use native.Mathlib.Omega.{arith}
-use mathlib.Core.Path.{◌≡◌, sym, ◌∙◌}
-use mathlib.Core.Bool.{true}
+use mathlib.Core.Path.{sym, ◌∙◌}
 use borrow.Author.Count.{below_none, below_more}
 use Rattle.state.proofs.Seq.{all_true, all-false}
-use Rattle.multi_cycle_list.specs.Inner.{placed_by}
 use Rattle.multi_cycle_list.proofs.whole.all_placed.Goals as goal
 
 pub loop-i-init : goal.loop-i-init

@@ -1,10 +1,6 @@
-use borrow.Author.Rules.{rules}
 use Prim.Native.Nat.{ℕ, ◌+◌, ◌-◌, ◌<◌, ◌≤◌}
-use native.Mathlib.Omega.{arith}
-use mathlib.Core.Path.{◌≡◌, sym, ◌∙◌}
+use mathlib.Core.Path.{◌≡◌}
 use mathlib.Core.Bool.{true}
-use borrow.Author.Count.{below_none, below_more}
-use Rattle.state.proofs.Seq.{all_true, all-false}
 use Rattle.multi_cycle_list.specs.Inner.{placed_by}
 use Rattle.multi_cycle_list.proofs.whole.all_placed.Given as goal
 

@@ -1,7 +1,5 @@
 use native.Mathlib.Omega.{arith}
-use Prim.Native.Nat.{ℕ, ◌-◌, ◌<◌, ◌≤◌}
 use mathlib.Core.Path.{◌≡◌, sym, ap, ◌∙◌}
-use mathlib.Core.Bool.{true}
 use borrow.Author.Count.{below_none, below_more}
 use lib.ListN.{length}
 use Rattle.state.proofs.Seq.{all_true, all-false}

@@ -1,14 +1,7 @@
-use native.Mathlib.Omega.{arith}
 use Prim.Native.Nat.{ℕ, ◌-◌, ◌<◌, ◌≤◌}
-use mathlib.Core.Path.{◌≡◌, sym, ap, ◌∙◌}
+use mathlib.Core.Path.{◌≡◌}
 use mathlib.Core.Bool.{true}
-use borrow.Author.Count.{below_none, below_more}
-use lib.ListN.{length}
-use Rattle.state.proofs.Seq.{all_true, all-false}
-use Rattle.state.proofs.Tests.{byte_fits, not-both}
-use Rattle.multi_cycle_list.specs.Nodes.{classes}
 use Rattle.multi_cycle_list.specs.Inner.{marks_of, meets_at}
-use Rattle.multi_cycle_list.proofs.Marks.{length-marks_of, meets-is, marks_are}
 use Rattle.multi_cycle_list.proofs.whole.cycles.Given as goal
 
 abbrev pub invariant-loop-k : goal.invariant-loop-k

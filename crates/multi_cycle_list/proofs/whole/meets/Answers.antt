@@ -1,9 +1,7 @@
-use borrow.Author.Rules.{rules}
 use native.Mathlib.Omega.{arith}
-use Prim.Native.Nat.{◌+◌, ◌<◌}
-use mathlib.Core.Path.{◌≡◌, refl, ◌∙◌}
-use lib.ListN.{length, length-set}
-use Rattle.multi_cycle_list.specs.Inner.{trail}
+use Prim.Native.Nat.{◌+◌}
+use mathlib.Core.Path.{refl, ◌∙◌}
+use lib.ListN.{length-set}
 use Rattle.multi_cycle_list.proofs.Marks.{off-class, off-out, off-not, no_turn, turn_met, turn_off, turn_met-behind, turn_off-behind, turn_again}
 use Rattle.multi_cycle_list.proofs.whole.meets.Goals as goal
 

@@ -1,4 +1,3 @@
-use borrow.Author.Rules.{rules}
 use mathlib.Core.Path.{refl}
 use Rattle.multi_cycle_list.specs.Inner.{unmarked}
 use Rattle.multi_cycle_list.proofs.whole.whole.Goals as goal

@@ -1,8 +1,6 @@
-use borrow.Author.Rules.{rules}
 use native.Mathlib.Omega.{arith}
-use Prim.Native.Nat.{◌-◌}
 use mathlib.Core.Path.{refl, ◌∙◌}
-use Rattle.entry_merge.proofs.Writing.{Keeping, keeping_none, keeping_yes, keeping_no, keeping_end}
+use Rattle.entry_merge.proofs.Writing.{keeping_none, keeping_yes, keeping_no, keeping_end}
 use Rattle.entry_merge.proofs.keep.Goals as goal
 
 pub loop-i-init : goal.loop-i-init

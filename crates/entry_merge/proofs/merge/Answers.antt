@@ -1,9 +1,8 @@
 use native.Mathlib.Omega.{arith}
-use Prim.Native.Nat.{◌+◌, ◌-◌}
 use mathlib.Core.Path.{refl, sym, ap, ◌∙◌}
 use lib.ListN.{length, length-set}
 use Rattle.entry_tree.specs.Places.{size, subject_at}
-use Rattle.entry_merge.proofs.Writing.{Merging, merging_none, first-yes, first-no, first-room, first_goes, second-room, second_goes, skip_goes, all-written, width, next-inside}
+use Rattle.entry_merge.proofs.Writing.{merging_none, first-yes, first-no, first-room, first_goes, second-room, second_goes, skip_goes, all-written, width, next-inside}
 use Rattle.entry_merge.proofs.merge.Goals as goal
 
 pub len-requires : goal.len-requires

@@ -1,4 +1,3 @@
-use borrow.Author.Rules.{rules}
 use mathlib.Core.Path.{sym, refl}
 use Rattle.state.proofs.Tests.{byte_fits}
 use Rattle.index_whole.proofs.KeyLaws.{key-none, key-same, key-spent}

@@ -1,4 +1,3 @@
-use borrow.Author.Rules.{rules}
 use Rattle.index_whole.proofs.ListLaws.{not-two, listed}
 use Rattle.index_whole.proofs.lists.Goals as goal
 

@@ -1,4 +1,3 @@
-use borrow.Author.Rules.{rules}
 use mathlib.Core.Path.{sym}
 use Rattle.state.proofs.Tests.{byte_fits}
 use Rattle.index_whole.proofs.SlotLaws.{slot-free, slot-over, slot-other, slot-last}

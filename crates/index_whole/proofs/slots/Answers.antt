@@ -1,9 +1,8 @@
 use borrow.Author.Rules.{rules}
-use Prim.Native.Nat.{◌-◌, ◌≤◌}
 use native.Mathlib.Omega.{arith}
 use borrow.Author.Count.{below_none}
 use Rattle.index_entries.specs.Bytes.{entries, slot_at, slot_b}
-use Rattle.index_whole.proofs.Turns.{Passed, fails, passes, ends}
+use Rattle.index_whole.proofs.Turns.{fails, passes, ends}
 use Rattle.index_whole.proofs.slots.Goals as goal
 
 pub loop-i-init : goal.loop-i-init

@@ -1,9 +1,6 @@
-use borrow.Author.Rules.{rules}
 use Prim.Native.Nat.{◌-◌, ◌≤◌}
-use native.Mathlib.Omega.{arith}
-use borrow.Author.Count.{below_none}
-use Rattle.index_entries.specs.Bytes.{entries, slot_at, slot_b}
-use Rattle.index_whole.proofs.Turns.{Passed, fails, passes, ends}
+use Rattle.index_entries.specs.Bytes.{slot_at, slot_b}
+use Rattle.index_whole.proofs.Turns.{Passed}
 use Rattle.index_whole.proofs.slots.Given as goal
 
 abbrev pub invariant-loop-i : goal.invariant-loop-i

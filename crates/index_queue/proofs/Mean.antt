@@ -17,7 +17,7 @@ use Rattle.state.proofs.Calls.{means_of}
 use Rattle.multi_cycle_list.specs.Lists.{Lists, count, row, without_entry, moved_front, moved_back}
 use Rattle.multi_cycle_list.proofs.Lists.{in_count}
 use Rattle.index_entries.specs.Keys.{Slot, free, holds, spent, Keys, has_key, is_free, slot, Found, missing, at, found, Within, ValidKeys, with_slot, with_lists, fresh}
-use Rattle.index_entries.specs.Bytes.{k_max, entries, read, whole_b}
+use Rattle.index_entries.specs.Bytes.{k_max, read, whole_b}
 use Rattle.index_entries.specs.Laid.{laid}
 use Rattle.index_entries.proofs.Find.{Looks, looks, key-not-free}
 use Rattle.index_entries.proofs.Keeping.{change_valid}

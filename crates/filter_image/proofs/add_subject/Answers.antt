@@ -1,4 +1,3 @@
-use borrow.Author.Rules.{rules}
 use native.Mathlib.Omega.{arith}
 use Rattle.filter_image.proofs.Ends.{accepted, add-refused, add_done}
 use Rattle.filter_image.proofs.add_subject.Goals as goal

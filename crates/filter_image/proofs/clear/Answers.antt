@@ -1,4 +1,3 @@
-use borrow.Author.Rules.{rules}
 use native.Mathlib.Omega.{arith}
 use Rattle.filter_image.proofs.Changes.{cleared-one, cleared-over}
 use Rattle.filter_image.proofs.clear.Goals as goal

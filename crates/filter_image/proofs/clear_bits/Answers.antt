@@ -1,4 +1,3 @@
-use borrow.Author.Rules.{rules}
 use native.Mathlib.Omega.{arith}
 use Rattle.filter_image.proofs.Changes.{cleared-bits}
 use Rattle.filter_image.proofs.clear_bits.Goals as goal

@@ -1,8 +1,7 @@
-use borrow.Author.Rules.{rules}
-use Prim.Native.Nat.{ℕ, ◌-◌, ◌*◌, ◌≤◌}
-use mathlib.Core.Path.{◌≡◌, ◌∙◌, ap}
+use Prim.Native.Nat.{ℕ, ◌-◌, ◌*◌}
+use mathlib.Core.Path.{◌∙◌, ap}
 use native.Mathlib.Omega.{arith}
-use lib.ListN.{length, length-set}
+use lib.ListN.{length-set}
 use Rattle.filter_image.specs.Image.{image_of, without_range, holds}
 use Rattle.filter_image.proofs.Changes.{cleared-none, cleared_more}
 use Rattle.filter_image.proofs.clear_bytes.Goals as goal

@@ -1,10 +1,7 @@
-use borrow.Author.Rules.{rules}
-use Prim.Native.Nat.{ℕ, ◌-◌, ◌*◌, ◌≤◌}
-use mathlib.Core.Path.{◌≡◌, ◌∙◌, ap}
-use native.Mathlib.Omega.{arith}
-use lib.ListN.{length, length-set}
+use Prim.Native.Nat.{◌-◌, ◌*◌, ◌≤◌}
+use mathlib.Core.Path.{◌≡◌}
+use lib.ListN.{length}
 use Rattle.filter_image.specs.Image.{image_of, without_range, holds}
-use Rattle.filter_image.proofs.Changes.{cleared-none, cleared_more}
 use Rattle.filter_image.proofs.clear_bytes.Given as goal
 
 abbrev pub invariant-loop-i : goal.invariant-loop-i

@@ -1,4 +1,3 @@
-use borrow.Author.Rules.{rules}
 use native.Mathlib.Omega.{arith}
 use Rattle.filter_image.proofs.Ends.{accepted, has-refused, has_done}
 use Rattle.filter_image.proofs.has_subject.Goals as goal

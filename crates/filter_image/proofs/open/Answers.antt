@@ -1,9 +1,5 @@
-use borrow.Author.Rules.{rules}
-use Prim.Native.Nat.{ℕ, ◌-◌, ◌<◌, ◌≤◌}
-use mathlib.Core.Path.{◌≡◌}
 use native.Mathlib.Omega.{arith}
-use lib.ListN.{length, get_or, length-set}
-use Rattle.filter_image.specs.Image.{image_of, none}
+use lib.ListN.{length-set}
 use Rattle.filter_image.proofs.Ends.{open_4, open_done, copied_more, copied_all}
 use Rattle.filter_image.proofs.open.Goals as goal
 

@@ -1,10 +1,7 @@
-use borrow.Author.Rules.{rules}
 use Prim.Native.Nat.{ℕ, ◌-◌, ◌<◌, ◌≤◌}
 use mathlib.Core.Path.{◌≡◌}
-use native.Mathlib.Omega.{arith}
-use lib.ListN.{length, get_or, length-set}
+use lib.ListN.{length, get_or}
 use Rattle.filter_image.specs.Image.{image_of, none}
-use Rattle.filter_image.proofs.Ends.{open_4, open_done, copied_more, copied_all}
 use Rattle.filter_image.proofs.open.Given as goal
 
 abbrev pub invariant-loop-i : goal.invariant-loop-i

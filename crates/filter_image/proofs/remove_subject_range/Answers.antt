@@ -1,4 +1,3 @@
-use borrow.Author.Rules.{rules}
 use native.Mathlib.Omega.{arith}
 use Rattle.filter_image.proofs.Ends.{accepted, remove_crossed, remove-refused, remove-done}
 use Rattle.filter_image.proofs.remove_subject_range.Goals as goal

@@ -1,4 +1,3 @@
-use borrow.Author.Rules.{rules}
 use Rattle.index_entries.specs.Bytes.{read}
 use Rattle.index_queue.specs.Calls.{contains}
 use Rattle.index_queue.proofs.Calls.{finds, unwhole, says, contains-is}

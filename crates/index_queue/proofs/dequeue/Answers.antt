@@ -1,4 +1,3 @@
-use borrow.Author.Rules.{rules}
 use Rattle.multi_cycle_list.specs.Lists.{without_entry}
 use Rattle.index_queue.specs.Calls.{dequeue}
 use Rattle.index_queue.proofs.Calls.{finds, unwhole, moved, unmoved, movable, gone_move}

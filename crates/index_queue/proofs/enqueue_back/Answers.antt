@@ -1,4 +1,3 @@
-use borrow.Author.Rules.{rules}
 use Rattle.multi_cycle_list.specs.Lists.{moved_back}
 use Rattle.index_queue.specs.Calls.{enqueue_back}
 use Rattle.index_queue.proofs.Calls.{finds, unwhole, moved, unmoved, movable, back_move}

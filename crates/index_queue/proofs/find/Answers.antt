@@ -1,4 +1,3 @@
-use borrow.Author.Rules.{rules}
 use mathlib.Core.Path.{sym, ◌∙◌}
 use Rattle.index_entries.specs.Bytes.{read}
 use Rattle.index_queue.proofs.Calls.{located, absent}

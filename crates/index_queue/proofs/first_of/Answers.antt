@@ -1,4 +1,3 @@
-use borrow.Author.Rules.{rules}
 use mathlib.Core.Path.{ap, ◌∙◌}
 use Rattle.multi_cycle_list.specs.Lists.{first}
 use Rattle.index_entries.proofs.Acts.{lent_class}

@@ -26,12 +26,12 @@ returns-in-Value c = let a = c.args in
 pub returns-in-Spent : goal.returns-in-Spent
 returns-in-Spent c = let a = c.args in
     let e = finds-value a.s.now a.key c.find_value.ensures c.in-Spent.is in
-    stays a.s.now e.0 (get_mut a.key a.value) (bytes_of a.s.now c.slice_known-1.given) _ (get_mut_is (read a.s.now) a.key _ e.1.1 a.value)
+    stays a.s.now e.0 (get_mut a.key a.value) (bytes_of a.s.now (search rules)) _ (get_mut_is (read a.s.now) a.key _ e.1.1 a.value)
 
 pub returns-in-Nowhere : goal.returns-in-Nowhere
 returns-in-Nowhere c = let a = c.args in
     let e = finds-value a.s.now a.key c.find_value.ensures c.in-Nowhere.is in
-    stays a.s.now e.0 (get_mut a.key a.value) (bytes_of a.s.now c.slice_known-1.given) _ (get_mut_is (read a.s.now) a.key _ e.1 a.value)
+    stays a.s.now e.0 (get_mut a.key a.value) (bytes_of a.s.now (search rules)) _ (get_mut_is (read a.s.now) a.key _ e.1 a.value)
 
 pub returns-in-NotWhole : goal.returns-in-NotWhole
 returns-in-NotWhole c = let a = c.args in

@@ -1,4 +1,3 @@
-use borrow.Author.Rules.{rules}
 use Rattle.index_entries.specs.Keys.{spent, with_slot}
 use Rattle.index_entries.specs.Bytes.{read}
 use Rattle.index_queue.specs.Calls.{insert}

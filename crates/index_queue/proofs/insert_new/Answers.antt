@@ -22,7 +22,7 @@ returns-then-word-key c = let a = c.args in
 pub take_entry-requires : goal.take_entry-requires
 take_entry-requires c = let s = c.args.s.now in
     let p = c.requires in
-    let y = bytes_of s c.slice_known-1.given in
+    let y = bytes_of s (search rules) in
     let q = sym c.in-Some.is ∙ c.first_of.ensures in
     (p.0, (first_entry s y p.0 1 q, (first-free s y p.0 _ q, (omega (arith, c.word.ensures.0, c.if-word-key.false), p.1))))
 

@@ -1,4 +1,3 @@
-use borrow.Author.Rules.{rules}
 use mathlib.Core.Path.{sym, ap, ◌∙◌}
 use Rattle.index_entries.specs.Keys.{slot}
 use Rattle.index_entries.specs.Bytes.{read}

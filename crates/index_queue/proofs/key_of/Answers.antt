@@ -1,4 +1,3 @@
-use borrow.Author.Rules.{rules}
 use mathlib.Core.Path.{sym, ap, ◌∙◌}
 use Rattle.index_entries.specs.Bytes.{read, entries}
 use Rattle.index_queue.specs.Calls.{key_at}

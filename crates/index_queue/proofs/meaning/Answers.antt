@@ -1,4 +1,3 @@
-use Prim.Native.Nat.{◌-◌}
 use Rattle.index_queue.proofs.Mean.{mean}
 use Rattle.index_queue.proofs.meaning.Goals as goal
 

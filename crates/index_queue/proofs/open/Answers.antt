@@ -1,5 +1,3 @@
-use borrow.Author.Rules.{rules}
-use Prim.Native.Nat.{◌-◌}
 use mathlib.Core.Path.{◌∙◌}
 use Rattle.index_entries.proofs.Facts.{allowed-keys}
 use Rattle.index_queue.proofs.Calls.{opens, open_sizes, open_length, open_done, sizes-keys, sizes-entries}

@@ -28,7 +28,7 @@ returns-in-Spent c = let a = c.args in
 pub returns-in-Nowhere : goal.returns-in-Nowhere
 returns-in-Nowhere c = let a = c.args in
     let e = finds-value a.s.now a.key c.find_value.ensures c.in-Nowhere.is in
-    stays a.s.now e.0 (remove a.key) (bytes_of a.s.now c.slice_known-1.given) _ (remove-is (read a.s.now) a.key _ e.1)
+    stays a.s.now e.0 (remove a.key) (bytes_of a.s.now (search rules)) _ (remove-is (read a.s.now) a.key _ e.1)
 
 pub returns-in-NotWhole : goal.returns-in-NotWhole
 returns-in-NotWhole c = let a = c.args in

@@ -22,4 +22,4 @@ pub pick-requires : goal.pick-requires
 pick-requires c = (whole_of c.args.s.now (sym c.whole.ensures ∙ c.if-whole.true)).queue
 
 pub returns : goal.returns
-returns c = over-queue c.args.s.now (sym c.whole.ensures ∙ c.if-whole.true) (bytes_of c.args.s.now c.slice_known-1.given) (pick c.args.mask c.args.mtu) (steps.pick c.args.mask c.args.mtu (queue.read (queue_part c.args.s.now))) refl _ _ c.pick.auto.s c.pick.ensures
+returns c = over-queue c.args.s.now (sym c.whole.ensures ∙ c.if-whole.true) (bytes_of c.args.s.now (search rules)) (pick c.args.mask c.args.mtu) (steps.pick c.args.mask c.args.mtu (queue.read (queue_part c.args.s.now))) refl _ _ c.pick.auto.s c.pick.ensures

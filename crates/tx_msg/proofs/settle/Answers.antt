@@ -23,4 +23,4 @@ pub settle-requires : goal.settle-requires
 settle-requires c = (whole_of c.args.s.now (sym c.whole.ensures ∙ c.if-whole.true)).queue
 
 pub returns : goal.returns
-returns c = over-queue c.args.s.now (sym c.whole.ensures ∙ c.if-whole.true) (bytes_of c.args.s.now c.slice_known-1.given) (settle (reported c.args.frame c.args.priority c.args.length c.args.last) c.args.readiness) (steps.settle (reported c.args.frame c.args.priority c.args.length c.args.last) c.args.readiness (queue.read (queue_part c.args.s.now))) refl _ _ c.settle.auto.s c.settle.ensures
+returns c = over-queue c.args.s.now (sym c.whole.ensures ∙ c.if-whole.true) (bytes_of c.args.s.now (search rules)) (settle (reported c.args.frame c.args.priority c.args.length c.args.last) c.args.readiness) (steps.settle (reported c.args.frame c.args.priority c.args.length c.args.last) c.args.readiness (queue.read (queue_part c.args.s.now))) refl _ _ c.settle.auto.s c.settle.ensures

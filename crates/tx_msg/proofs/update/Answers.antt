@@ -22,4 +22,4 @@ pub update-requires : goal.update-requires
 update-requires c = (whole_of c.args.s.now (sym c.whole.ensures ∙ c.if-whole.true)).queue
 
 pub returns : goal.returns
-returns c = over-queue c.args.s.now (sym c.whole.ensures ∙ c.if-whole.true) (bytes_of c.args.s.now c.slice_known-1.given) (update c.args.entry c.args.readiness) (steps.update c.args.entry c.args.readiness (queue.read (queue_part c.args.s.now))) refl _ _ c.update.auto.s c.update.ensures
+returns c = over-queue c.args.s.now (sym c.whole.ensures ∙ c.if-whole.true) (bytes_of c.args.s.now (search rules)) (update c.args.entry c.args.readiness) (steps.update c.args.entry c.args.readiness (queue.read (queue_part c.args.s.now))) refl _ _ c.update.auto.s c.update.ensures

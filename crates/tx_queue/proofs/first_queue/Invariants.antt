@@ -1,10 +1,5 @@
-use borrow.Author.Rules.{rules}
 use Prim.Native.Nat.{◌-◌, ◌≤◌}
-use mathlib.Core.Path.{refl}
-use mathlib.Core.Logic.{⊎_elim}
-use native.Mathlib.Omega.{arith}
-use Rattle.tx_queue.proofs.Reading.{sizes_of}
-use Rattle.tx_queue.proofs.Turns.{Reached, found, unmasked, unfilled, not_found}
+use Rattle.tx_queue.proofs.Turns.{Reached}
 use Rattle.tx_queue.proofs.first_queue.Given as goal
 
 abbrev pub invariant-loop-k : goal.invariant-loop-k

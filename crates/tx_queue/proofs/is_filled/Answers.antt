@@ -1,4 +1,3 @@
-use borrow.Author.Rules.{rules}
 use mathlib.Core.Path.{sym, ◌∙◌}
 use Rattle.multi_cycle_list.specs.Lists.{row}
 use Rattle.multi_cycle_list.specs.Nodes.{read}

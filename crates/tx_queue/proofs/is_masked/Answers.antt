@@ -1,4 +1,3 @@
-use borrow.Author.Rules.{rules}
 use Rattle.tx_queue.proofs.Turns.{masked}
 use Rattle.tx_queue.proofs.is_masked.Goals as goal
 

@@ -1,12 +1,7 @@
-use borrow.Author.Rules.{rules}
 use Prim.Native.Nat.{ℕ, ◌-◌, ◌<◌, ◌≤◌}
-use mathlib.Core.Path.{◌≡◌, sym}
+use mathlib.Core.Path.{◌≡◌}
 use mathlib.Core.Bool.{true}
-use native.Mathlib.Omega.{arith}
-use borrow.Author.Count.{below_none, below_more}
-use Rattle.state.proofs.Seq.{all_true, all-false}
 use Rattle.tx_queue.specs.Inner.{named_b}
-use Rattle.tx_queue.proofs.Turns.{named, misnamed}
 use Rattle.tx_queue.proofs.marks_ok.Given as goal
 
 abbrev pub invariant-loop-e : goal.invariant-loop-e

@@ -1,4 +1,3 @@
-use borrow.Author.Rules.{rules}
 use native.Mathlib.Omega.{arith}
 use Rattle.tx_queue.proofs.Turns.{first-in, priority-low, is-started, is_finished, not-ready}
 use Rattle.tx_queue.proofs.place.Goals as goal

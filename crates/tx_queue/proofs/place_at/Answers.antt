@@ -1,4 +1,3 @@
-use borrow.Author.Rules.{rules}
 use mathlib.Core.Path.{sym, ◌∙◌}
 use Rattle.tx_queue.proofs.Turns.{no_flag, flagged}
 use Rattle.tx_queue.proofs.place_at.Goals as goal

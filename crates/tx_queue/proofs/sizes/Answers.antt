@@ -1,4 +1,3 @@
-use borrow.Author.Rules.{rules}
 use mathlib.Core.Path.{sym}
 use Rattle.tx_queue.proofs.Turns.{no-classes, sizes-last}
 use Rattle.tx_queue.proofs.sizes.Goals as goal

@@ -1,4 +1,3 @@
-use borrow.Author.Rules.{rules}
 use mathlib.Core.Path.{refl, sym, ◌∙◌}
 use Rattle.multi_cycle_list.specs.Inner.{unmarked}
 use Rattle.tx_queue.proofs.Grounds.{no_length, no-sizes, no-queue, no-placed, whole-last}

@@ -1,4 +1,3 @@
-use borrow.Author.Rules.{rules}
 use mathlib.Core.Path.{sym, ap}
 use Rattle.emcyphal_core.specs.Priorities.{number}
 use Rattle.emcyphal_core.proofs.Priority.into_u8.Goals as goal

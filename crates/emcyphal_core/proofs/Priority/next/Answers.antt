@@ -1,5 +1,4 @@
 use native.Mathlib.Omega.{arith}
-use borrow.Author.Rules.{rules}
 use mathlib.Core.Path.{◌∙◌}
 use Rattle.emcyphal_core.proofs.Laws.{numbered}
 use Rattle.emcyphal_core.proofs.Priority.next.Goals as goal

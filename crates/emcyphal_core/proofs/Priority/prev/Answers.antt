@@ -1,4 +1,3 @@
-use borrow.Author.Rules.{rules}
 use Rattle.emcyphal_core.proofs.Laws.{numbered, some-before, no-before}
 use Rattle.emcyphal_core.proofs.Priority.prev.Goals as goal
 

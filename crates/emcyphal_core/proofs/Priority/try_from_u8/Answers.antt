@@ -1,5 +1,4 @@
 use native.Mathlib.Omega.{arith}
-use borrow.Author.Rules.{rules}
 use Rattle.emcyphal_core.proofs.Laws.{some-priority, no-priority}
 use Rattle.emcyphal_core.proofs.Priority.try_from_u8.Goals as goal
 

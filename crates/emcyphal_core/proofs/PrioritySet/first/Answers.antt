@@ -1,5 +1,4 @@
 use native.Mathlib.Omega.{arith}
-use borrow.Author.Rules.{rules}
 use mathlib.Core.Path.{◌∙◌}
 use Rattle.emcyphal_core.proofs.Laws.{trailing_fits, least}
 use Rattle.emcyphal_core.proofs.PrioritySet.first.Goals as goal

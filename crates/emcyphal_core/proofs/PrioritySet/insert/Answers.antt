@@ -1,4 +1,3 @@
-use borrow.Author.Rules.{rules}
 use Rattle.emcyphal_core.proofs.Laws.{with-member}
 use Rattle.emcyphal_core.proofs.PrioritySet.insert.Goals as goal
 

@@ -1,5 +1,4 @@
 use native.Mathlib.Omega.{arith}
-use borrow.Author.Rules.{rules}
 use Rattle.emcyphal_core.proofs.Laws.{leading_le, some-greatest, no-greatest}
 use Rattle.emcyphal_core.proofs.PrioritySet.last.Goals as goal
 

@@ -1,5 +1,4 @@
 use native.Mathlib.Omega.{arith}
-use borrow.Author.Rules.{rules}
 use Rattle.emcyphal_core.proofs.Laws.{numbered, only}
 use Rattle.emcyphal_core.proofs.PrioritySet.new_eq.Goals as goal
 

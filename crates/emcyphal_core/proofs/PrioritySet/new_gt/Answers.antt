@@ -1,4 +1,3 @@
-use borrow.Author.Rules.{rules}
 use Rattle.emcyphal_core.proofs.Laws.{numbered, after}
 use Rattle.emcyphal_core.proofs.PrioritySet.new_gt.Goals as goal
 

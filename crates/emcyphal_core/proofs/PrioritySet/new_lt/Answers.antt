@@ -1,4 +1,3 @@
-use borrow.Author.Rules.{rules}
 use Rattle.emcyphal_core.proofs.Laws.{numbered, ahead}
 use Rattle.emcyphal_core.proofs.PrioritySet.new_lt.Goals as goal
 

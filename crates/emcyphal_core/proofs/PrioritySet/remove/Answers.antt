@@ -1,4 +1,3 @@
-use borrow.Author.Rules.{rules}
 use Rattle.emcyphal_core.proofs.Laws.{without-member}
 use Rattle.emcyphal_core.proofs.PrioritySet.remove.Goals as goal
 

@@ -1,4 +1,3 @@
-use borrow.Author.Rules.{rules}
 use Rattle.emcyphal_core.proofs.Laws.{took, ended}
 use Rattle.emcyphal_core.proofs.PrioritySetIterator.next.Goals as goal
 

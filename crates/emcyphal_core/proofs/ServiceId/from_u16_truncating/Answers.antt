@@ -1,4 +1,3 @@
-use borrow.Author.Rules.{rules}
 use mathlib.Core.Path.{refl}
 use Rattle.emcyphal_core.proofs.ServiceId.from_u16_truncating.Goals as goal
 

@@ -1,4 +1,3 @@
-use borrow.Author.Rules.{rules}
 use Rattle.format.proofs.Laws.{is_made}
 use Rattle.format.proofs.TailByte.new.Goals as goal
 

@@ -1,4 +1,3 @@
-use borrow.Author.Rules.{rules}
 use Rattle.format.proofs.TailByte.transfer_id.Goals as goal
 
 pub returns : goal.returns

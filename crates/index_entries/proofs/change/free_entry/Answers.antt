@@ -1,3 +1,4 @@
+use borrow.Author.Rules.{rules}
 use native.Mathlib.Omega.{arith}
 use Prim.Native.Nat.{ℕ, ◌+◌, ◌*◌}
 use mathlib.Core.Path.{sym, ap, ◌∙◌}
@@ -45,7 +46,7 @@ pub bounds-s-n : goal.bounds-s-n
 bounds-s-n c = let s = c.args.s.now in
     let f = facts_of s c.requires.0 in
     let q = c.requires.1.1.0 in
-    omega (arith, f.len, f.few, f.low, c.list_back.auto.s, c.set_word.auto.s, q, in-range s (bytes_of c.args.s.now c.slice_known-1.given) c.requires.0 c.args.i c.requires.1.0 (omega (arith, q, c.requires.1.1.1)))
+    omega (arith, f.len, f.few, f.low, c.list_back.auto.s, c.set_word.auto.s, q, in-range s (bytes_of c.args.s.now (search rules)) c.requires.0 c.args.i c.requires.1.0 (omega (arith, q, c.requires.1.1.1)))
 
 pub shape_of-s : goal.shape_of-s
 shape_of-s c = simp length-set (c.set_word.auto.s ∙ c.list_back.auto.s)
@@ -58,4 +59,4 @@ returns c = let s = c.args.s.now in
     let t = set_word (with_list s l) (8 + 2 * n + 2 * c.args.i) 65535 in
     ap (λ (x : List ℕ). set x (8 + 8 * n + c.args.key) 255) (c.set_word.ensures ∙ ap (λ (x : List ℕ). set_word x (8 + 2 * n + 2 * c.args.i) 65535) c.list_back.ensures)
     ∙ ap (λ (k : ℕ). set t (8 + 8 * n + k) 255) (sym q)
-    ∙ freed-laid s (bytes_of c.args.s.now c.slice_known-1.given) c.requires.0 c.args.i c.requires.1.0 (omega (arith, q, c.requires.1.1.1))
+    ∙ freed-laid s (bytes_of c.args.s.now (search rules)) c.requires.0 c.args.i c.requires.1.0 (omega (arith, q, c.requires.1.1.1))

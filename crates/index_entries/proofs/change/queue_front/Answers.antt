@@ -1,3 +1,4 @@
+use borrow.Author.Rules.{rules}
 use native.Mathlib.Omega.{arith}
 use mathlib.Core.Path.{◌∙◌}
 use Rattle.index_entries.proofs.Facts.{facts_of}
@@ -9,5 +10,5 @@ use Rattle.index_entries.proofs.change.queue_front.Goals as goal
 
 pub returns : goal.returns
 returns c = let s = c.args.s.now in
-    let y = (bytes_of c.args.s.now c.slice_known-1.given) in
+    let y = (bytes_of c.args.s.now (search rules)) in
     c.list_front.ensures ∙ lists-laid s y c.requires.0 c.args.i c.requires.1.0 (moved_front 0 c.args.i (read c.args.s.now).lists) c.requires.1.1 (moves_front (read s) (read-valid s (facts_of s c.requires.0) y) c.args.i (omega (arith, c.requires.1.0, slots_length s)))

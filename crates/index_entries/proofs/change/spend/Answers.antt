@@ -1,3 +1,4 @@
+use borrow.Author.Rules.{rules}
 use native.Mathlib.Omega.{arith}
 use Prim.Native.Nat.{ℕ, ◌+◌, ◌*◌}
 use mathlib.Core.Path.{sym, ap, ◌∙◌}
@@ -36,5 +37,5 @@ returns c = let s = c.args.s.now in
     let q = c.requires.1.1.0 in
     c.set_word.ensures
     ∙ ap (λ (k : ℕ). set_word s (8 + 2 * entries s + 2 * c.args.i) (8192 + k)) (sym q)
-    ∙ spent-laid s (bytes_of c.args.s.now c.slice_known-1.given) c.requires.0 c.args.i c.requires.1.0 (omega (arith, q, c.requires.1.1.1))
+    ∙ spent-laid s (bytes_of c.args.s.now (search rules)) c.requires.0 c.args.i c.requires.1.0 (omega (arith, q, c.requires.1.1.1))
     ∙ ap (λ (k : ℕ). laid (with_slot c.args.i (spent k) (read s)) s) q

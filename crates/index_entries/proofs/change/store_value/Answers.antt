@@ -1,3 +1,4 @@
+use borrow.Author.Rules.{rules}
 use native.Mathlib.Omega.{arith}
 use mathlib.Core.Path.{◌∙◌}
 use Rattle.state.proofs.Tests.{byte_fits}
@@ -27,4 +28,4 @@ pub set_long-requires : goal.set_long-requires
 set_long-requires c = let f = facts_of c.args.s.now c.requires.0 in omega (arith, f.len, f.few, f.low)
 
 pub returns : goal.returns
-returns c = c.set_long.ensures ∙ value-laid c.args.s.now (bytes_of c.args.s.now c.slice_known-1.given) c.requires.0 c.args.i c.requires.1.0 c.requires.1.1 c.args.v (omega arith)
+returns c = c.set_long.ensures ∙ value-laid c.args.s.now (bytes_of c.args.s.now (search rules)) c.requires.0 c.args.i c.requires.1.0 c.requires.1.1 c.args.v (omega arith)

@@ -1,3 +1,4 @@
+use borrow.Author.Rules.{rules}
 use native.Mathlib.Omega.{arith}
 use Prim.Native.Nat.{ℕ, ◌+◌, ◌*◌}
 use mathlib.Core.Path.{ap, ◌∙◌}
@@ -69,4 +70,4 @@ returns c = let s = c.args.s.now in
     let n = entries s in
     ap (λ (x : List ℕ). set x (8 + 8 * n + c.args.key) c.args.i)
     (c.set_long.ensures ∙ ap (λ (x : List ℕ). set_long x (8 + 4 * n + 4 * c.args.i) c.args.v) (c.set_word.ensures ∙ ap (λ (x : List ℕ). set_word x (8 + 2 * n + 2 * c.args.i) c.args.key) c.list_remove.ensures))
-    ∙ taken-laid s (bytes_of c.args.s.now c.slice_known-1.given) c.requires.0 c.args.i c.requires.1.0 c.args.key c.args.v c.requires.1.1.0 c.requires.1.1.1.0 (omega arith) c.requires.1.1.1.1
+    ∙ taken-laid s (bytes_of c.args.s.now (search rules)) c.requires.0 c.args.i c.requires.1.0 c.args.key c.args.v c.requires.1.1.0 c.requires.1.1.1.0 (omega arith) c.requires.1.1.1.1

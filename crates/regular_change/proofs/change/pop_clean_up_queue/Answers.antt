@@ -15,31 +15,31 @@ pub slice_bounds-position-end : goal.slice_bounds-position-end
 slice_bounds-position-end c = omega (arith, (known c.args.s.now c.requires.0).long)
 
 pub position-i-requires : goal.position-i-requires
-position-i-requires c = (long-active c.args.s.now (bytes_of c.args.s.now c.slice_known-1.given) c.requires.0, few-active c.args.s.now (bytes_of c.args.s.now c.slice_known-1.given) c.requires.0)
+position-i-requires c = (long-active c.args.s.now (bytes_of c.args.s.now (search rules)) c.requires.0, few-active c.args.s.now (bytes_of c.args.s.now (search rules)) c.requires.0)
 
 pub slice_bounds-from_at-end : goal.slice_bounds-from_at-end
 slice_bounds-from_at-end c = omega (arith, (known c.args.s.now c.requires.0).long)
 
 pub from_at-first-requires : goal.from_at-first-requires
-from_at-first-requires c = let l = front-place c.args.s.now (bytes_of c.args.s.now c.slice_known-1.given) c.requires.0 c.args.entry (drop 1 (read c.args.s.now).clean_up) (first_some (read c.args.s.now).clean_up c.args.entry c.requires.1) c.position-i.result c.position-i.ensures in (long-active c.args.s.now (bytes_of c.args.s.now c.slice_known-1.given) c.requires.0, (few-active c.args.s.now (bytes_of c.args.s.now c.slice_known-1.given) c.requires.0, (l, subject_in_range c.args.s.now c.requires.0 _ (omega (arith, l)))))
+from_at-first-requires c = let l = front-place c.args.s.now (bytes_of c.args.s.now (search rules)) c.requires.0 c.args.entry (drop 1 (read c.args.s.now).clean_up) (first_some (read c.args.s.now).clean_up c.args.entry c.requires.1) c.position-i.result c.position-i.ensures in (long-active c.args.s.now (bytes_of c.args.s.now (search rules)) c.requires.0, (few-active c.args.s.now (bytes_of c.args.s.now (search rules)) c.requires.0, (l, subject_in_range c.args.s.now c.requires.0 _ (omega (arith, l)))))
 
 pub slice_bounds-subject_at-end : goal.slice_bounds-subject_at-end
 slice_bounds-subject_at-end c = omega (arith, (known c.args.s.now c.requires.0).long)
 
 pub subject_at-last-requires : goal.subject_at-last-requires
-subject_at-last-requires c = (long-active c.args.s.now (bytes_of c.args.s.now c.slice_known-1.given) c.requires.0, omega (arith, front-place c.args.s.now (bytes_of c.args.s.now c.slice_known-1.given) c.requires.0 c.args.entry (drop 1 (read c.args.s.now).clean_up) (first_some (read c.args.s.now).clean_up c.args.entry c.requires.1) c.position-i.result c.position-i.ensures, few-active c.args.s.now (bytes_of c.args.s.now c.slice_known-1.given) c.requires.0))
+subject_at-last-requires c = (long-active c.args.s.now (bytes_of c.args.s.now (search rules)) c.requires.0, omega (arith, front-place c.args.s.now (bytes_of c.args.s.now (search rules)) c.requires.0 c.args.entry (drop 1 (read c.args.s.now).clean_up) (first_some (read c.args.s.now).clean_up c.args.entry c.requires.1) c.position-i.result c.position-i.ensures, few-active c.args.s.now (bytes_of c.args.s.now (search rules)) c.requires.0))
 
 pub overflow_sub-last : goal.overflow_sub-last
-overflow_sub-last c = omega (arith, c.subject_at-last.ensures, front_above c.args.s.now (bytes_of c.args.s.now c.slice_known-1.given) c.requires.0 c.args.entry (drop 1 (read c.args.s.now).clean_up) (first_some (read c.args.s.now).clean_up c.args.entry c.requires.1) c.position-i.result c.position-i.ensures)
+overflow_sub-last c = omega (arith, c.subject_at-last.ensures, front_above c.args.s.now (bytes_of c.args.s.now (search rules)) c.requires.0 c.args.entry (drop 1 (read c.args.s.now).clean_up) (first_some (read c.args.s.now).clean_up c.args.entry c.requires.1) c.position-i.result c.position-i.ensures)
 
 pub slice_bounds-inner_remove-end : goal.slice_bounds-inner_remove-end
 slice_bounds-inner_remove-end c = omega (arith, (known c.args.s.now c.requires.0).long)
 
 pub inner_remove-requires : goal.inner_remove-requires
-inner_remove-requires c = (whole-queue c.args.s.now (bytes_of c.args.s.now c.slice_known-1.given) c.requires.0, omega (arith, entries-all c.args.s.now (bytes_of c.args.s.now c.slice_known-1.given) c.requires.0, front-entry c.args.s.now (bytes_of c.args.s.now c.slice_known-1.given) c.requires.0 c.args.entry (drop 1 (read c.args.s.now).clean_up) (first_some (read c.args.s.now).clean_up c.args.entry c.requires.1)))
+inner_remove-requires c = (whole-queue c.args.s.now (bytes_of c.args.s.now (search rules)) c.requires.0, omega (arith, entries-all c.args.s.now (bytes_of c.args.s.now (search rules)) c.requires.0, front-entry c.args.s.now (bytes_of c.args.s.now (search rules)) c.requires.0 c.args.entry (drop 1 (read c.args.s.now).clean_up) (first_some (read c.args.s.now).clean_up c.args.entry c.requires.1)))
 
 pub shape_of-s : goal.shape_of-s
 shape_of-s c = same_len_mid 770 262 c.args.s.now c.inner_remove.new.s c.inner_remove.auto.s
 
 pub returns : goal.returns
-returns c = (front-says c.args.s.now (bytes_of c.args.s.now c.slice_known-1.given) c.requires.0 c.args.entry (drop 1 (read c.args.s.now).clean_up) (first_some (read c.args.s.now).clean_up c.args.entry c.requires.1) c.position-i.result c.position-i.ensures c.from_at-first.result c.subject_at-last.result c.from_at-first.ensures c.subject_at-last.ensures, ap (λ (q : List ℕ). put_mid 770 262 c.args.s.now q) c.inner_remove.ensures ∙ popped-then c.args.s.now (bytes_of c.args.s.now c.slice_known-1.given) c.requires.0 c.args.entry (drop 1 (read c.args.s.now).clean_up) (first_some (read c.args.s.now).clean_up c.args.entry c.requires.1))
+returns c = (front-says c.args.s.now (bytes_of c.args.s.now (search rules)) c.requires.0 c.args.entry (drop 1 (read c.args.s.now).clean_up) (first_some (read c.args.s.now).clean_up c.args.entry c.requires.1) c.position-i.result c.position-i.ensures c.from_at-first.result c.subject_at-last.result c.from_at-first.ensures c.subject_at-last.ensures, ap (λ (q : List ℕ). put_mid 770 262 c.args.s.now q) c.inner_remove.ensures ∙ popped-then c.args.s.now (bytes_of c.args.s.now (search rules)) c.requires.0 c.args.entry (drop 1 (read c.args.s.now).clean_up) (first_some (read c.args.s.now).clean_up c.args.entry c.requires.1))

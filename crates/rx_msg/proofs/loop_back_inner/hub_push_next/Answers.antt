@@ -18,7 +18,7 @@ pub bounds-s-385 : goal.bounds-s-385
 bounds-s-385 c = omega (arith, (whole_of c.args.s.now (sym c.whole.ensures ∙ c.if-whole.true)).long)
 
 pub returns-then-e-gt127 : goal.returns-then-e-gt127
-returns-then-e-gt127 c = next_nowhere c.args.s.now (sym c.whole.ensures ∙ c.if-whole.true) (bytes_of c.args.s.now c.slice_known-1.given) c.if-e-gt127.true
+returns-then-e-gt127 c = next_nowhere c.args.s.now (sym c.whole.ensures ∙ c.if-whole.true) (bytes_of c.args.s.now (search rules)) c.if-e-gt127.true
 
 pub slice_bounds-position-end : goal.slice_bounds-position-end
 slice_bounds-position-end c = omega (arith, (whole_of c.args.s.now (sym c.whole.ensures ∙ c.if-whole.true)).long)
@@ -30,10 +30,10 @@ pub slice_bounds-next_push-end : goal.slice_bounds-next_push-end
 slice_bounds-next_push-end c = omega (arith, (whole_of c.args.s.now (sym c.whole.ensures ∙ c.if-whole.true)).long)
 
 pub next_push-w-requires : goal.next_push-w-requires
-next_push-w-requires c = (long_tree c.args.s.now (sym c.whole.ensures ∙ c.if-whole.true), (few_pairs c.args.s.now (sym c.whole.ensures ∙ c.if-whole.true), (c.position-i.ensures, pointed-place c.args.s.now (sym c.whole.ensures ∙ c.if-whole.true) (bytes_of c.args.s.now c.slice_known-1.given) c.if-e-gt127.false _ c.position-i.ensures)))
+next_push-w-requires c = (long_tree c.args.s.now (sym c.whole.ensures ∙ c.if-whole.true), (few_pairs c.args.s.now (sym c.whole.ensures ∙ c.if-whole.true), (c.position-i.ensures, pointed-place c.args.s.now (sym c.whole.ensures ∙ c.if-whole.true) (bytes_of c.args.s.now (search rules)) c.if-e-gt127.false _ c.position-i.ensures)))
 
 pub set_walk-requires : goal.set_walk-requires
 set_walk-requires c = omega (arith, (whole_of c.args.s.now (sym c.whole.ensures ∙ c.if-whole.true)).long)
 
 pub returns : goal.returns
-returns c = pushed c.args.s.now (sym c.whole.ensures ∙ c.if-whole.true) (bytes_of c.args.s.now c.slice_known-1.given) c.if-e-gt127.false _ c.next_push-w.ensures _ c.is_at.ensures _ c.set_walk.ensures
+returns c = pushed c.args.s.now (sym c.whole.ensures ∙ c.if-whole.true) (bytes_of c.args.s.now (search rules)) c.if-e-gt127.false _ c.next_push-w.ensures _ c.is_at.ensures _ c.set_walk.ensures

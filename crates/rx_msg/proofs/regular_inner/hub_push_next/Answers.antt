@@ -15,7 +15,7 @@ pub bounds-s-1035 : goal.bounds-s-1035
 bounds-s-1035 c = omega (arith, (known c.args.s.now (sym c.whole.ensures ∙ c.if-whole.true)).long)
 
 pub returns-then-e-gt127 : goal.returns-then-e-gt127
-returns-then-e-gt127 c = next_nowhere c.args.s.now (bytes_of c.args.s.now c.slice_known-1.given) (sym c.whole.ensures ∙ c.if-whole.true) _ refl c.if-e-gt127.true
+returns-then-e-gt127 c = next_nowhere c.args.s.now (bytes_of c.args.s.now (search rules)) (sym c.whole.ensures ∙ c.if-whole.true) _ refl c.if-e-gt127.true
 
 pub slice_bounds-position-end : goal.slice_bounds-position-end
 slice_bounds-position-end c = omega (arith, (known c.args.s.now (sym c.whole.ensures ∙ c.if-whole.true)).long)
@@ -27,10 +27,10 @@ pub slice_bounds-next_on-end : goal.slice_bounds-next_on-end
 slice_bounds-next_on-end c = omega (arith, (known c.args.s.now (sym c.whole.ensures ∙ c.if-whole.true)).long)
 
 pub next_on-w-requires : goal.next_on-w-requires
-next_on-w-requires c = let k = known c.args.s.now (sym c.whole.ensures ∙ c.if-whole.true) in (k.active-long, (k.active-few, pointed-place c.args.s.now (bytes_of c.args.s.now c.slice_known-1.given) (sym c.whole.ensures ∙ c.if-whole.true) _ refl c.if-e-gt127.false _ c.position-i.ensures))
+next_on-w-requires c = let k = known c.args.s.now (sym c.whole.ensures ∙ c.if-whole.true) in (k.active-long, (k.active-few, pointed-place c.args.s.now (bytes_of c.args.s.now (search rules)) (sym c.whole.ensures ∙ c.if-whole.true) _ refl c.if-e-gt127.false _ c.position-i.ensures))
 
 pub set_walk-requires : goal.set_walk-requires
 set_walk-requires c = omega (arith, (known c.args.s.now (sym c.whole.ensures ∙ c.if-whole.true)).long)
 
 pub returns : goal.returns
-returns c = next-pushed c.args.s.now (bytes_of c.args.s.now c.slice_known-1.given) (sym c.whole.ensures ∙ c.if-whole.true) _ refl c.if-e-gt127.false _ c.position-i.ensures _ c.next_on-w.ensures _ c.is_at.ensures _ c.set_walk.ensures
+returns c = next-pushed c.args.s.now (bytes_of c.args.s.now (search rules)) (sym c.whole.ensures ∙ c.if-whole.true) _ refl c.if-e-gt127.false _ c.position-i.ensures _ c.next_on-w.ensures _ c.is_at.ensures _ c.set_walk.ensures

@@ -13,7 +13,7 @@ pub returns-else-whole : goal.returns-else-whole
 returns-else-whole c = unwhole poll_pop c.args.s.now (sym c.whole.ensures ∙ c.if-whole.false)
 
 pub loop-x-init : goal.loop-x-init
-loop-x-init c = begins c.args.s.now (bytes_of c.args.s.now c.slice_known-1.given) (sym c.whole.ensures ∙ c.if-whole.true)
+loop-x-init c = begins c.args.s.now (bytes_of c.args.s.now (search rules)) (sym c.whole.ensures ∙ c.if-whole.true)
 
 pub poll_pop_filter_update-requires : goal.poll_pop_filter_update-requires
 poll_pop_filter_update-requires c = c.loop-x.invariant.whole

@@ -18,4 +18,4 @@ pub pop_registration_queue-requires : goal.pop_registration_queue-requires
 pop_registration_queue-requires c = (c.requires.0, (c.requires.1.0, (c.requires.1.1, sym (activation-front c.args.s.now c.requires.0) ∙ sym c.inner_front-front.ensures ∙ c.in-Some.is)))
 
 pub returns-in-None : goal.returns-in-None
-returns-in-None c = still_ends c.args.s.now (bytes_of c.args.s.now c.slice_known-1.given) c.requires.0 c.requires.1.0 c.requires.1.1 (first-none (read c.args.s.now).activation (sym (activation-front c.args.s.now c.requires.0) ∙ sym c.inner_front-front.ensures ∙ c.in-None.is))
+returns-in-None c = still_ends c.args.s.now (bytes_of c.args.s.now (search rules)) c.requires.0 c.requires.1.0 c.requires.1.1 (first-none (read c.args.s.now).activation (sym (activation-front c.args.s.now c.requires.0) ∙ sym c.inner_front-front.ensures ∙ c.in-None.is))

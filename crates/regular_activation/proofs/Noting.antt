@@ -1,5 +1,5 @@
 -- What is noted of the inactive entries: where those of a subject begin, and which place is the next to be filled.
-use Prim.Native.Nat.{ℕ, ◌+◌, ◌-◌, ◌<◌, ◌≤◌}
+use Prim.Native.Nat.{ℕ, ◌+◌, ◌<◌, ◌≤◌}
 use mathlib.Core.Path.{◌≡◌, sym, ap, ◌∙◌, subst}
 use mathlib.Core.List.{List}
 use mathlib.Core.Bool.{Bool, true, false, cond}
@@ -16,7 +16,7 @@ use Rattle.entry_tree.specs.Inner.{position}
 use Rattle.entry_tree.proofs.Reading.{read_length, read_at, read-place-subject}
 use Rattle.entry_tree.proofs.Count.{same, diff, compare_eq, true-any}
 use Rattle.entry_tree.proofs.Finding.{count_at, entry_place}
-use Rattle.regular.specs.Bytes.{active_part, inactive_part, whole_b, read}
+use Rattle.regular.specs.Bytes.{active_part, inactive_part, whole_b}
 use Rattle.regular_activation.specs.Inner.{StartsAt, Starts}
 use Rattle.regular_change.proofs.Looks.{known}
 

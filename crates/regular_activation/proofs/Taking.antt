@@ -24,7 +24,7 @@ use Rattle.entry_tree.proofs.Lists.{none}
 use Rattle.entry_tree.proofs.Reading.{read_length, read_at}
 use Rattle.entry_merge.proofs.Merging.{merged-length}
 use Rattle.regular.specs.Registry.{Registry}
-use Rattle.regular.specs.Bytes.{active_part, inactive_part, queue_part, read, whole_b, flag_over, queue_of, laid}
+use Rattle.regular.specs.Bytes.{active_part, inactive_part, queue_part, read, whole_b, flag_over, queue_of}
 use Rattle.regular.specs.Steps.{inner_step}
 use Rattle.regular.proofs.Parts.{Joined, put-active, put-inactive, put-queue, tail_at, active-is, inactive-is, queue-is, long}
 use Rattle.entry_tree.specs.Walks.{walk_over}

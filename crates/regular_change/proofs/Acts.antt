@@ -24,7 +24,7 @@ use Rattle.multi_cycle_list.specs.Laid as lists_laid
 use Rattle.multi_cycle_list.proofs.Lists.{without-none, in_count, without-same, count_same, count-gone, count_kept}
 use Rattle.multi_cycle_list.proofs.Laid as queues
 use Rattle.multi_cycle_list.proofs.Changes.{remove-valid}
-use Rattle.entry_tree.specs.Pairs.{Pair, pair, count, is_entry, has_entry, has_subject, inserted, without, place_of, Place, past}
+use Rattle.entry_tree.specs.Pairs.{Pair, pair, count, is_entry, has_entry, has_subject, inserted, place_of, Place, past}
 use Rattle.entry_tree.specs.Places as tree
 use Rattle.entry_tree.specs.Inner.{position, removed_at, walk_at, with_walk_past}
 use Rattle.entry_tree.proofs.Laid as trees

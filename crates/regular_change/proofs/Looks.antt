@@ -8,12 +8,11 @@ use native.Mathlib.Omega.{arith}
 use lib.Dec.{leb, ltb}
 use lib.ListN.{length, drop}
 use borrow.Author.Tests.{lt-ltb, le-ltb, le-leb, lt-leb, eq-eqb, ne_eqb}
-use Rattle.state.specs.Seq.{each}
 use Rattle.multi_cycle_list.specs.Lists as lists
 use Rattle.multi_cycle_list.specs.Lists.{first}
 use Rattle.multi_cycle_list.specs.declared.inner.MaybeEntry.TheVariants.{Some}
 use Rattle.multi_cycle_list.specs.Nodes as nodes
-use Rattle.entry_tree.specs.Pairs.{Pair, Place, count, is_entry, has_entry, place_of}
+use Rattle.entry_tree.specs.Pairs.{Pair, Place, is_entry, has_entry, place_of}
 use Rattle.entry_tree.specs.Places as tree
 use Rattle.entry_tree.specs.Places.{size, entry_at, subject_at, pair_at}
 use Rattle.entry_tree.specs.Inner.{position}

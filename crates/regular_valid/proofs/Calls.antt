@@ -10,7 +10,7 @@ use borrow.Author.Tests.{ltb-false}
 use Rattle.state.specs.Result.{Result, refuse, done, answer, left}
 use Rattle.state.proofs.Tests.{by_cond, not-both}
 use Rattle.multi_cycle_list.specs.Lists as lists
-use Rattle.entry_tree.specs.Pairs.{pair, count, is_entry, on_subject, has_entry, has_subject, without, place_of}
+use Rattle.entry_tree.specs.Pairs.{pair, count, is_entry, on_subject, has_entry, has_subject, place_of}
 use Rattle.entry_tree.proofs.Changes.{inserted-count, without-none}
 use Rattle.entry_tree.specs.Walks.{first_on, next_on}
 use Rattle.entry_tree.proofs.Walking.{find-rest, first-in, next_in}

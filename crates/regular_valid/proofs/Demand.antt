@@ -15,7 +15,7 @@ use Rattle.entry_tree.proofs.Changes.{without-count, without-count-other, withou
 use Rattle.regular.specs.Registry.{Registry, fresh}
 use Rattle.regular.specs.Steps.{Call, PollPop, step, poll_pop}
 use Rattle.regular.specs.declared.Answer.{Answer}
-use Rattle.regular.specs.declared.Answer.TheVariants.{Refused, AddSubject, RemoveSubjectRange, Nothing}
+use Rattle.regular.specs.declared.Answer.TheVariants.{Refused, AddSubject, Nothing}
 use Rattle.regular_valid.specs.Moves as moves
 use Rattle.regular_valid.specs.Moves.{Registered}
 use Rattle.regular_valid.specs.Inner.{moved, into, covers, is_update}

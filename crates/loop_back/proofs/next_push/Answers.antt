@@ -1,4 +1,3 @@
-use borrow.Author.Rules.{rules}
 use mathlib.Core.Path.{sym, ap, ◌∙◌}
 use Rattle.entry_tree.specs.Walks.{first}
 use Rattle.entry_tree.proofs.Finding.{place-rest-at}

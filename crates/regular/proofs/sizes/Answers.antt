@@ -1,4 +1,3 @@
-use borrow.Author.Rules.{rules}
 use mathlib.Core.Path.{sym}
 use Rattle.regular.proofs.Turns.{no-active, no-inactive, no-classes, sizes-last}
 use Rattle.regular.proofs.sizes.Goals as goal

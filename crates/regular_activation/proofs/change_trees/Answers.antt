@@ -1,4 +1,3 @@
-use borrow.Author.Rules.{rules}
 use native.Mathlib.Omega.{arith}
 use Prim.Native.Nat.{ℕ, ◌+◌, ◌≤◌}
 use mathlib.Core.Path.{◌≡◌, sym, ap, ◌∙◌, subst}
@@ -7,7 +6,7 @@ use mathlib.Core.Bool.{true}
 use lib.ListN.{length}
 use Rattle.entry_tree.specs.Pairs.{in_order}
 use Rattle.entry_tree.specs.Places as tree
-use Rattle.entry_merge.specs.Inner.{kept, filled}
+use Rattle.entry_merge.specs.Inner.{filled}
 use Rattle.regular.specs.Bytes.{inactive_part}
 use Rattle.regular_activation.proofs.Taking.{inactive-then, part-long-a, part-long-i, changed}
 use Rattle.regular_activation.proofs.change_trees.Goals as goal

@@ -1,11 +1,5 @@
-use borrow.Author.Rules.{rules}
-use native.Mathlib.Omega.{arith}
-use Prim.Native.Nat.{ℕ, ◌-◌}
-use mathlib.Core.Path.{sym, ap, ◌∙◌, subst}
-use mathlib.Core.List.{List}
-use lib.ListN.{length, length-replicate}
-use Rattle.regular_change.proofs.Looks.{known}
-use Rattle.regular_activation.proofs.Noting.{Noting, noting_none, group_is, noting_more}
+use Prim.Native.Nat.{◌-◌}
+use Rattle.regular_activation.proofs.Noting.{Noting}
 use Rattle.regular_activation.proofs.note_starts.Given as goal
 
 abbrev pub invariant-loop-i : goal.invariant-loop-i

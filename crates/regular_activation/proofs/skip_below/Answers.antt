@@ -1,5 +1,4 @@
 use native.Mathlib.Omega.{arith}
-use Prim.Native.Nat.{◌-◌}
 use Rattle.regular_activation.proofs.skip_below.Goals as goal
 
 pub len-n-requires : goal.len-n-requires

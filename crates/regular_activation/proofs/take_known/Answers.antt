@@ -1,15 +1,12 @@
 use borrow.Author.Rules.{rules}
 use native.Mathlib.Omega.{arith}
 use Prim.Native.Nat.{ℕ}
-use mathlib.Core.Path.{◌≡◌, sym, ap, ◌∙◌}
+use mathlib.Core.Path.{sym, ap, ◌∙◌}
 use lib.ListN.{length, length-set, length-replicate}
 use Rattle.state.proofs.Tests.{byte_fits}
-use Rattle.multi_cycle_list.specs.Lists.{row}
-use Rattle.multi_cycle_list.specs.Nodes as nodes
 use Rattle.entry_tree.proofs.Reading.{bytes_of}
-use Rattle.regular.specs.Bytes.{queue_part}
 use Rattle.regular_change.proofs.Looks.{known}
-use Rattle.regular_activation.proofs.Taking.{Taking, taking_none, queue-whole, front-then, front-small, tree_long, tree_few, taking_more, shorter, taken}
+use Rattle.regular_activation.proofs.Taking.{taking_none, queue-whole, front-then, front-small, tree_long, tree_few, taking_more, shorter, taken}
 use Rattle.regular_activation.proofs.take_known.Goals as goal
 
 pub slice_bounds-inner_front-end : goal.slice_bounds-inner_front-end

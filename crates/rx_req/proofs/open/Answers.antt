@@ -1,4 +1,3 @@
-use borrow.Author.Rules.{rules}
 use Rattle.rx_req.proofs.Calls.{opened-other, opened-fresh}
 use Rattle.rx_req.proofs.open.Goals as goal
 

@@ -1,4 +1,3 @@
-use borrow.Author.Rules.{rules}
 use mathlib.Core.Path.{sym, ◌∙◌}
 use Rattle.rx_req.specs.Steps.{register}
 use Rattle.rx_req.proofs.Testing.{known}

@@ -1,4 +1,3 @@
-use borrow.Author.Rules.{rules}
 use mathlib.Core.Path.{sym, ◌∙◌}
 use Rattle.rx_req.proofs.Testing.{no_length, no_size, pairs_test}
 use Rattle.rx_req.proofs.whole.Goals as goal

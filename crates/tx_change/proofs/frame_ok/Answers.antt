@@ -1,4 +1,3 @@
-use borrow.Author.Rules.{rules}
 use native.Mathlib.Omega.{arith}
 use Rattle.tx_change.proofs.Looks.{frame_empty, frame_long, frame_fits}
 use Rattle.tx_change.proofs.frame_ok.Goals as goal

@@ -1,4 +1,3 @@
-use borrow.Author.Rules.{rules}
 use lib.ListN.{get_or}
 use Rattle.tx_change.proofs.Looks.{open_is}
 use Rattle.tx_change.proofs.is_open.Goals as goal

@@ -1,4 +1,3 @@
-use borrow.Author.Rules.{rules}
 use Rattle.tx_change.proofs.Looks.{registered-is}
 use Rattle.tx_change.proofs.is_registered.Goals as goal
 

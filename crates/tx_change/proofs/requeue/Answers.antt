@@ -1,4 +1,3 @@
-use borrow.Author.Rules.{rules}
 use native.Mathlib.Omega.{arith}
 use Rattle.tx_queue.proofs.Reading.{known}
 use Rattle.tx_change.proofs.Acts.{requeue_out, requeue_back, requeue_same}

@@ -1,4 +1,3 @@
-use borrow.Author.Rules.{rules}
 use native.Mathlib.Omega.{arith}
 use Rattle.tx_change.proofs.Looks.{wakes-none, wakes-same, wakes-masked}
 use Rattle.tx_change.proofs.wakes.Goals as goal

@@ -1,4 +1,3 @@
-use borrow.Author.Rules.{rules}
 use Rattle.tx_resp.proofs.Calls.{opened-other, opened-fresh}
 use Rattle.tx_resp.proofs.open.Goals as goal
 

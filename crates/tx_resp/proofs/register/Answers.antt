@@ -1,4 +1,3 @@
-use borrow.Author.Rules.{rules}
 use mathlib.Core.Path.{sym, ◌∙◌}
 use Rattle.tx_queue.specs.Steps.{register}
 use Rattle.tx_resp.proofs.Calls.{unwhole, on-whole}

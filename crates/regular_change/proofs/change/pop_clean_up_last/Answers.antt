@@ -1,6 +1,5 @@
 use borrow.Author.Rules.{rules}
 use native.Mathlib.Omega.{arith}
-use mathlib.Core.Path.{◌≡◌}
 use lib.ListN.{length-set}
 use Rattle.entry_tree.proofs.Reading.{bytes_of}
 use Rattle.regular_change.proofs.Looks.{known}

@@ -1,4 +1,3 @@
-use borrow.Author.Rules.{rules}
 use Rattle.regular_change.proofs.Acts.{flag-new, flag_old}
 use Rattle.regular_change.proofs.change.set_last_gap.Goals as goal
 

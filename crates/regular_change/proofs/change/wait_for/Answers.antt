@@ -1,13 +1,12 @@
 use borrow.Author.Rules.{rules}
 use native.Mathlib.Omega.{arith}
 use Prim.Native.Nat.{ℕ}
-use mathlib.Core.Path.{◌≡◌, ap, ◌∙◌}
+use mathlib.Core.Path.{ap, ◌∙◌}
 use mathlib.Core.List.{List}
 use borrow.Rule.Slice.PartMut.{put_mid, same_len_mid}
 use Rattle.multi_cycle_list.specs.Lists.{moved_back}
 use Rattle.multi_cycle_list.specs.Nodes as nodes
 use Rattle.multi_cycle_list.specs.Laid as lists_laid
-use Rattle.entry_tree.specs.Places as tree
 use Rattle.entry_tree.proofs.Reading.{bytes_of}
 use Rattle.regular.specs.Bytes.{queue_part}
 use Rattle.regular_change.specs.Inner.{with_slots}

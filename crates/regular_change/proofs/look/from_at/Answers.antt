@@ -1,4 +1,3 @@
-use borrow.Author.Rules.{rules}
 use Rattle.regular_change.proofs.Looks.{from_first, from_past}
 use Rattle.regular_change.proofs.look.from_at.Goals as goal
 

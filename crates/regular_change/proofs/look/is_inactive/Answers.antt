@@ -1,4 +1,3 @@
-use borrow.Author.Rules.{rules}
 use native.Mathlib.Omega.{arith}
 use Rattle.regular_change.proofs.Looks.{known}
 use Rattle.regular_change.proofs.look.is_inactive.Goals as goal

@@ -1,4 +1,3 @@
-use borrow.Author.Rules.{rules}
 use Rattle.tx_msg.proofs.Calls.{opened-other, opened-fresh}
 use Rattle.tx_msg.proofs.open.Goals as goal
 

@@ -1,4 +1,3 @@
-use borrow.Author.Rules.{rules}
 use Rattle.rx_msg.proofs.LoopBack.{opened-other, opened-fresh}
 use Rattle.rx_msg.proofs.loop_back_inner.open.Goals as goal
 

@@ -1,4 +1,3 @@
-use borrow.Author.Rules.{rules}
 use Rattle.rx_msg.proofs.Calls.{opened-other, opened-past, opened-fresh}
 use Rattle.rx_msg.proofs.regular_inner.open.Goals as goal
 

@@ -1,4 +1,3 @@
-use borrow.Author.Rules.{rules}
 use native.Mathlib.Omega.{arith}
 use Rattle.regular_change.proofs.Looks.{known}
 use Rattle.rx_msg.proofs.Calls.{place-active, gap-found, leaving-full, leaving}

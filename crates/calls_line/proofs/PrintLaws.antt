@@ -10,49 +10,25 @@ use lib.Dec.{ltb}
 use lib.ListN.{length, get_or, set, length-append}
 use lib.Seq.{sets, sets-eq, paste, paste-zero, paste-suc, length-paste, take-length}
 use borrow.Author.Tests.{lt-ltb, le-ltb, ltb-true, ltb-false}
-use denote.Enum.Declared.{tag_of}
-use types.Run.{OneOf, miss}
-use Rattle.io.specs.Digits as io
+use Rattle.std.specs.Fmt as std
+use Rattle.std.proofs.lemmas.Fmt.{decimal_by_steps}
 use Rattle.regular.specs.declared.Answer.{Answer}
 use Rattle.regular.specs.declared.Answer.TheVariants.{Refused, Done, Accepted, AddSubject, RemoveSubjectRange, Nothing, Started, Pushed, NotPushed}
-use Rattle.regular.specs.contracts.Answer.{the_type}
 use Rattle.calls_line.specs.Lines.{decimal_by, decimal, spaced, add_word, remove_word, nothing_word, shown}
 use Rattle.calls_line.specs.Inner.{Put}
 
--- ---- an answer that is none of those with a number, with more to follow, with words
+-- ---- an answer that is none of those with words
 
-pub number-other : (a : Answer) → OneOf (1 ∷ 2 ∷ 3 ∷ 4 ∷ 5 ∷ 6 ∷ 7 ∷ 8 ∷ []) (tag_of the_type a) → 0 ≡ (shown a).number
-number-other (Refused n) k = absurd (miss (1 ∷ 2 ∷ 3 ∷ 4 ∷ 5 ∷ 6 ∷ 7 ∷ 8 ∷ []) 0 tt k)
-number-other Done k = refl
-number-other (Accepted w) k = refl
-number-other (AddSubject x) k = refl
-number-other (RemoveSubjectRange x y) k = refl
-number-other Nothing k = refl
-number-other (Started t) k = refl
-number-other (Pushed e t) k = refl
-number-other NotPushed k = refl
-
-pub more-other : (a : Answer) → OneOf (0 ∷ 1 ∷ 2 ∷ 3 ∷ 4 ∷ 5 ∷ 8 ∷ []) (tag_of the_type a) → false ≡ (shown a).more
-more-other (Refused n) k = refl
-more-other Done k = refl
-more-other (Accepted w) k = refl
-more-other (AddSubject x) k = refl
-more-other (RemoveSubjectRange x y) k = refl
-more-other Nothing k = refl
-more-other (Started t) k = absurd (miss (0 ∷ 1 ∷ 2 ∷ 3 ∷ 4 ∷ 5 ∷ 8 ∷ []) 6 tt k)
-more-other (Pushed e t) k = absurd (miss (0 ∷ 1 ∷ 2 ∷ 3 ∷ 4 ∷ 5 ∷ 8 ∷ []) 7 tt k)
-more-other NotPushed k = refl
-
-pub words-other : (a : Answer) → OneOf (0 ∷ 1 ∷ 2 ∷ 6 ∷ 8 ∷ []) (tag_of the_type a) → (shown a).words ≡ []
-words-other (Refused n) k = refl
-words-other Done k = refl
-words-other (Accepted w) k = refl
-words-other (AddSubject x) k = absurd (miss (0 ∷ 1 ∷ 2 ∷ 6 ∷ 8 ∷ []) 3 tt k)
-words-other (RemoveSubjectRange x y) k = absurd (miss (0 ∷ 1 ∷ 2 ∷ 6 ∷ 8 ∷ []) 4 tt k)
-words-other Nothing k = absurd (miss (0 ∷ 1 ∷ 2 ∷ 6 ∷ 8 ∷ []) 5 tt k)
-words-other (Started t) k = refl
-words-other (Pushed e t) k = absurd (miss (0 ∷ 1 ∷ 2 ∷ 6 ∷ 8 ∷ []) 7 tt k)
-words-other NotPushed k = refl
+pub words-other : (a : Answer) → ((x : ℕ) → a ≡ AddSubject x → ⊥) → ((x y : ℕ) → a ≡ RemoveSubjectRange x y → ⊥) → (a ≡ Nothing → ⊥) → ((e : ℕ) (t : Bool) → a ≡ Pushed e t → ⊥) → (shown a).words ≡ []
+words-other (Refused n) f g h k = refl
+words-other Done f g h k = refl
+words-other (Accepted w) f g h k = refl
+words-other (AddSubject x) f g h k = absurd (f x refl)
+words-other (RemoveSubjectRange x y) f g h k = absurd (g x y refl)
+words-other Nothing f g h k = absurd (h refl)
+words-other (Started t) f g h k = refl
+words-other (Pushed e t) f g h k = absurd (k e t refl)
+words-other NotPushed f g h k = refl
 
 -- ---- texts that are put one after the other
 
@@ -120,23 +96,9 @@ decimal-short (suc (suc k)) n h l = by_ten (ltb n 10) refl (λ p. decimal-short 
   by_ten true q f = rw (decimal-one n (ltb-true n 10 q)) (omega arith)
   by_ten false q f = rw (decimal-more n (ltb-false n 10 q), length-append) (omega (arith, f (omega (arith, pow-succ' 10 (suc k)))))
 
-fewer : (k n : ℕ) → 0 < k → 10 ^ suc k ≤ n → 10 ^ (suc k - 1) ≤ n / 10
-fewer k n l h =
-    let one : suc k - 1 ≡ k = omega arith in
-    rw one (omega (arith, pow-succ' 10 k))
-
--- what `io::decimal` spells
-pub spelled : (k n : ℕ) → io.IsDigitCount 10 1 n k → io.last_digits 10 k n ≡ decimal n
-spelled zero n h = absurd (omega (arith, h.0))
-spelled (suc zero) n h =
-    let l : n < 10 = omega (arith, h.1) in
-    rw (decimal-one n l, mod-eq_of_lt l, lt-ltb n 10 l)
-spelled (suc (suc k)) n h =
-    let one : suc (suc k) - 1 ≡ suc k = omega arith in
-    let low : 10 ^ suc k ≤ n = rw one at (h.2 (omega arith)) in
-    let ten : 10 ≤ n = omega (arith, pow-le-pow_right {n = 10} (omega arith) {i = 1} {j = suc k} (omega arith)) in
-    let next : n / 10 < 10 ^ suc k = omega (arith, h.1, pow-succ' 10 (suc k)) in
-    rw (decimal-more n ten, ← spelled (suc k) (n / 10) (omega arith, next, λ l. fewer k n (omega arith) low), lt-ltb (n % 10) 10 (omega arith))
+-- what std spells
+pub spelled : (n : ℕ) → n < 65536 → std.decimal n ≡ decimal n
+spelled n h = decimal_by_steps (λ m ds. ds ≡ decimal m) (λ m l. sym (decimal-one m l)) (λ m ds l q. rw (decimal-more m l, q)) n (omega arith)
 
 five : (n : ℕ) → n < 65536 → length (decimal n) ≤ 5
 five n h = decimal-short 5 n (omega arith) (omega arith)

@@ -6,6 +6,7 @@ ghost use Rattle.calls_line.specs.Lines as lines;
 ghost use Rattle.calls_line.specs.Lines.{decimal, spaced, shown, printed, named, walked};
 ghost use Rattle.calls_line.specs.Inner.{Put};
 
+use itoa::Buffer;
 use regular::Answer;
 use rx_msg::regular_inner::{hub_push_next, hub_push_start};
 
@@ -28,9 +29,8 @@ fn put_number(out: &mut [u8], at: usize, n: u16) -> usize
     requires { at + 5 ≤ length out.old }
     ensures { (Put out.old at (decimal n) out.new result) × (result ≤ at + 5) }
 {
-    let mut digits = [0u8; 20];
-    let k = io::decimal(n as u64, &mut digits);
-    put(out, at, &digits[..k])
+    let mut digits = Buffer::new();
+    put(out, at, digits.format(n).as_bytes())
 }
 
 fn number(a: Answer) -> u8

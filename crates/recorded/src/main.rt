@@ -5,6 +5,8 @@
 ghost use Rattle.std.specs.Prelude.{◌≡◌, ◌≤◌, length};
 
 use gomxeli::{img, iq, lb, leaves, mcq, reg, req, txm, txr};
+use std::io;
+use std::io::Read;
 
 // The numbers of the line so far, the one being read, and the lengths of the list queue's and the key queue's bytes.
 #[derive(Clone, Copy)]
@@ -209,9 +211,8 @@ fn with_lengths(line: Line) -> Line {
     started(line.lists, line.keys)
 }
 
-fn write_answer(answer: u64) {
-    io::print_decimal(1, answer);
-    io::write_all(1, b"\n");
+fn write_answer(answer: u64, rt: &impl Print) -> io::Result<()> {
+    println!(rt; "{answer}")
 }
 
 // The states, one after the other: a list queue (514 bytes at most), a key queue (9,979 at most), the regular registry, the image,
@@ -234,7 +235,7 @@ fn answer_of(states: &mut [u8], line: Line, a: u32, b: u32, c: u32) -> u64
 }
 
 // Makes the line's call and writes its answer; the next line begins.
-fn answered(line: Line, states: &mut [u8]) -> Line
+fn answered(line: Line, states: &mut [u8], rt: &impl Print) -> io::Result<Line>
     requires { length states.old ≡ 15066 }
 {
     let a = low32(line.a);
@@ -244,50 +245,48 @@ fn answered(line: Line, states: &mut [u8]) -> Line
     let mut sized = line;
     sized.lists = out.lists;
     sized.keys = out.keys;
-    write_answer(answer_of(states, sized, a, b, c));
-    out
+    write_answer(answer_of(states, sized, a, b, c), rt)?;
+    Ok(out)
 }
 
 // One more byte of the input.
-fn fed(b: u8, line: Line, states: &mut [u8]) -> Line
+fn fed(b: u8, line: Line, states: &mut [u8], rt: &impl Print) -> io::Result<Line>
     requires { length states.old ≡ 15066 }
 {
     if b == 10 {
-        return answered(line, states);
+        return answered(line, states, rt);
     }
     if b == 32 {
-        return with_blank(line);
+        return Ok(with_blank(line));
     }
     if b < 48 {
-        return line;
+        return Ok(line);
     }
-    with_digit(line, b - 48)
+    Ok(with_digit(line, b - 48))
 }
 
-fn fed_all(chunk: &[u8], line: Line, states: &mut [u8]) -> Line
+fn fed_all(chunk: &[u8], line: Line, states: &mut [u8], rt: &impl Print) -> io::Result<Line>
     requires { length states.old ≡ 15066 }
 {
     let mut out = line;
-    let mut i = 0;
-    while i < chunk.len() {
-        out = fed(chunk[i], out, states);
-        i += 1;
+    for b in chunk {
+        out = fed(*b, out, states, rt)?;
     }
-    out
+    Ok(out)
 }
 
-// A proved loop has to end, and nothing says that the input does: the turns count down from a number that no run uses up.
-fn main() {
+// A proved loop has to end, and nothing says that the input does: the turns go up to a number that no run uses up.
+fn main(rt: HostRuntime) -> io::Result<()> {
     let mut states = [0u8; 15066];
     let mut chunk = [0u8; 4096];
     let mut line = started(0, 0);
-    let mut turns = u64::MAX;
-    while 0 < turns {
-        let n = io::read_full(0, &mut chunk);
+    let mut input = rt.stdin();
+    for _ in 0..u64::MAX {
+        let n = input.read(&mut chunk)?;
         if n == 0 {
             break;
         }
-        line = fed_all(&chunk[..n], line, &mut states);
-        turns -= 1;
+        line = fed_all(&chunk[..n], line, &mut states, &rt)?;
     }
+    Ok(())
 }

@@ -1,17 +1,19 @@
 -- Laws of the reader of lines.
-use Prim.Native.Nat.{ℕ, ◌+◌, ◌<◌, ◌≤◌}
+use Prim.Native.Nat.{ℕ, ◌+◌, ◌-◌, ◌^◌, ◌<◌, ◌≤◌}
 use mathlib.Core.Path.{◌≡◌, refl, sym, ap, ◌∙◌}
 use mathlib.Core.Bool.{Bool, true, false, cond}
-use mathlib.Core.List.{List, [], ◌∷◌, ◌++◌, append_assoc}
+use mathlib.Core.List.{List, [], ◌∷◌, ◌++◌, append_assoc, append-nil}
+use Rattle.std.specs.Prelude.{Option, None, Some, Result, Ok, Err, OnOk, OnErr}
+use Rattle.std.specs.Io.KnownBytes.{Appends, Consumes, IsAtEnd}
 use native.Mathlib.Numerals.{add-one}
 use native.Mathlib.Omega.{arith}
 use lib.Dec.{eqb, ltb}
-use lib.ListN.{length, get_or, take, drop, set, length-append, drop_of_length-le}
-use lib.Seq.{take_all, take_at, take-append-le, length-take-le, take-suc-set, drop-cons}
+use lib.ListN.{length, get_or, take, drop, set, length-append}
+use lib.Seq.{take_all, take_at, take-append-le, length-take-le, take-suc, take-suc-set}
 use borrow.Author.Tests.{lt-ltb, le-ltb, ltb-true, ltb-false, ne_eqb}
 use Rattle.calls_line.specs.Lines.{does, parsed}
 use Rattle.calls_line.proofs.ReadLaws.{parsed-long}
-use Rattle.calls.specs.Reader.{Reader, reader, kept, fed, prints, fed_all, prints_all, last, lines, printed, prints_last, Reads}
+use Rattle.calls.specs.Reader.{Reader, reader, kept, fed, prints, fed_all, prints_all, last, lines, printed, prints_last, IsStateWithin, Answered, Reads}
 
 -- ---- 32 bytes of a line tell what it comes to
 
@@ -95,12 +97,134 @@ module _ (s part out : List ℕ) (n b : ℕ) where
       let z : length (take n part) ≡ n = length-take-le n part (omega arith) in
       (rw (ne_eqb b 10 q, z, le-ltb n 32 h), (rw (ne_eqb b 10 q), (m, omega arith)))
 
--- ---- the bytes of a chunk, after i of them
+-- ---- bytes that are written and taken
 
-pub fed-none : (r : Reader) (chunk : List ℕ) (i : ℕ) → length chunk ≤ i → fed_all r (drop i chunk) ≡ r
-unfolding fed_all
-fed-none r chunk i h = rw (drop_of_length-le chunk h)
+pub appends_none : (o : Option (List ℕ)) → Appends o o []
+appends_none None = tt
+appends_none (Some xs) = sym (append-nil xs)
 
-pub fed-more : (r : Reader) (chunk : List ℕ) (i : ℕ) → i < length chunk → fed_all r (drop i chunk) ≡ fed_all (fed r (get_or chunk i 0)) (drop (i + 1) chunk)
+pub appends_more : (o p q : Option (List ℕ)) (x y : List ℕ) → Appends o p x → Appends p q y → Appends o q (x ++ y)
+appends_more None p q x y h k = tt
+appends_more (Some xs) None q x y h k = absurd h
+appends_more (Some xs) (Some ys) None x y h k = absurd k
+appends_more (Some xs) (Some ys) (Some zs) x y h k = k ∙ rw h (append_assoc xs x y)
+
+pub consumes_none : (o : Option (List ℕ)) → Consumes o o []
+consumes_none None = tt
+consumes_none (Some xs) = refl
+
+pub consumes_more : (o p q : Option (List ℕ)) (x y : List ℕ) → Consumes o p x → Consumes p q y → Consumes o q (x ++ y)
+consumes_more None p q x y h k = tt
+consumes_more (Some xs) None q x y h k = absurd h
+consumes_more (Some xs) (Some ys) None x y h k = absurd k
+consumes_more (Some xs) (Some ys) (Some zs) x y h k = h ∙ rw k (sym (append_assoc x y zs))
+
+-- ---- the bytes of a text, after i of them
+
+-- the reader is `now`, and a writer that held `held` holds `held'`
+pub record Feeding (r : Reader) (text : List ℕ) (i : ℕ) (now : Reader) (held held' : Option (List ℕ)) : Type 0 where
+  pub reads : now ≡ fed_all r (take i text)
+  pub written : Appends held held' (prints_all r (take i text))
+
+pub feeding_none : (r : Reader) (text : List ℕ) (held : Option (List ℕ)) → Feeding r text 0 r held held
+unfolding fed_all prints_all
+feeding_none r text held = record { reads = refl; written = appends_none held }
+
+fed-one : (r : Reader) (x : ℕ) → fed_all r (x ∷ []) ≡ fed r x
 unfolding fed_all
-fed-more r chunk i h = rw (add-one, drop-cons chunk i 0 h)
+fed-one r x = refl
+
+prints-one : (r : Reader) (x : ℕ) → prints_all r (x ∷ []) ≡ prints r x
+unfolding prints_all
+prints-one r x = append-nil (prints r x)
+
+one-more : (text : List ℕ) (i : ℕ) → i < length text → take (i + 1) text ≡ take i text ++ (get_or text i 0 ∷ [])
+one-more text i h = rw add-one (take-suc text i 0 h)
+
+pub fed-more : (r : Reader) (text : List ℕ) (i : ℕ) {now now' : Reader} → i < length text → now ≡ fed_all r (take i text) → now' ≡ fed now (get_or text i 0) → now' ≡ fed_all r (take (i + 1) text)
+fed-more r text i {now} {now'} h q e = rw (one-more text i h, cut-fed r (take i text) (get_or text i 0 ∷ []), ← q, fed-one now (get_or text i 0)) e
+
+pub feeding_more : {r now now' : Reader} {text out : List ℕ} {i : ℕ} {held held' held'' : Option (List ℕ)} → Feeding r text i now held held' → i < length text
+    → now' ≡ fed now (get_or text i 0) → out ≡ prints now (get_or text i 0) → Appends held' held'' out → Feeding r text (i + 1) now' held held''
+feeding_more {r} {now} {now'} {text} {out} {i} {held} {held'} {held''} f h e w a = record {
+  reads = fed-more r text i h f.reads e;
+  written =
+      rw (one-more text i h, cut-prints r (take i text) (get_or text i 0 ∷ []), ← f.reads, prints-one now (get_or text i 0), ← w)
+      (appends_more held held' held'' (prints_all r (take i text)) out f.written a);
+}
+
+pub feeding_all : {r now : Reader} {text : List ℕ} {i : ℕ} {held held' : Option (List ℕ)} → Feeding r text i now held held' → length text ≤ i → (now ≡ fed_all r text) × Appends held held' (prints_all r text)
+feeding_all {r} {now} {text} {i} f h = let e : take i text ≡ text = take_all i text h in (rw e at f.reads, rw e at f.written)
+
+-- the registry's bytes after the byte at i
+pub within : (r : Reader) (text : List ℕ) (i : ℕ) {now now' : Reader} → i < length text → now ≡ fed_all r (take i text) → now' ≡ fed now (get_or text i 0) → IsStateWithin r text now'.state
+within r text i h q e = (i + 1, omega arith, ap (λ (z : Reader). z.state) (fed-more r text i h q e))
+
+pub on_err : {T E P : Type 0} (r : Result T E) → P → OnErr r P
+on_err (Ok x) p = tt
+on_err (Err e) p = p
+
+-- ---- the end of the input
+
+pub last-none : (s part : List ℕ) (n : ℕ) (held : Option (List ℕ)) → n ≡ 0 → Appends held held (prints_last (reader s (take n part)))
+unfolding printed
+last-none s part n held q = rw q (appends_none held)
+
+last-some : (s p : List ℕ) → 0 < length p → prints_last (reader s p) ≡ (does s p).text
+unfolding printed
+last-some s [] h = absurd (omega arith)
+last-some s (x ∷ p) h = append-nil (does s (x ∷ p)).text
+
+-- r bytes are printed
+pub last-line : (s part out : List ℕ) (n : ℕ) {out' : List ℕ} {r : ℕ} → (n ≡ 0 → ⊥) → n ≤ length part → r ≡ length (does s (take n part)).text → out' ≡ (does s (take n part)).text ++ drop r out
+    → take r out' ≡ prints_last (reader s (take n part))
+last-line s part out n {out'} {r} z h e t =
+    rw (last-some s (take n part) (omega (arith, length-take-le n part h)), t) (take_at (does s (take n part)).text (drop r out) r (sym e))
+
+-- ---- the input, after some turns that each took a byte at least
+
+pub record Reading (b : List ℕ) (turns : ℕ) (left left' held held' : Option (List ℕ)) (now : Reader) : Type 0 where
+  pub text : List ℕ
+  pub long : turns ≤ length text
+  pub taken : Consumes left left' text
+  pub reads : now ≡ fed_all (reader b []) text
+  pub written : Appends held held' (prints_all (reader b []) text)
+
+pub reading_none : (b : List ℕ) (left held : Option (List ℕ)) → Reading b 0 left left held held (reader b [])
+unfolding fed_all prints_all
+reading_none b left held = record { text = []; long = omega arith; taken = consumes_none left; reads = refl; written = appends_none held }
+
+pub reading_more : {b : List ℕ} {turns : ℕ} {left left' left'' held held' held'' : Option (List ℕ)} {now now' : Reader} (chunk : List ℕ) → Reading b turns left left' held held' now → 0 < length chunk
+    → Consumes left' left'' chunk → now' ≡ fed_all now chunk → Appends held' held'' (prints_all now chunk) → Reading b (turns + 1) left left'' held held'' now'
+reading_more {b} {turns} {left} {left'} {left''} {held} {held'} {held''} {now} {now'} chunk f h a e w = record {
+  text = f.text ++ chunk;
+  long = omega (arith, h, f.long, length-append f.text chunk);
+  taken = consumes_more left left' left'' f.text chunk f.taken a;
+  reads = rw (cut-fed (reader b []) f.text chunk, ← f.reads) e;
+  written = rw (cut-prints (reader b []) f.text chunk, ← f.reads) (appends_more held held' held'' (prints_all (reader b []) f.text) (prints_all now chunk) f.written w);
+}
+
+-- a last turn that took nothing
+pub reading_stop : {b : List ℕ} {turns : ℕ} {left left' left'' held held' : Option (List ℕ)} {now : Reader} → Reading b turns left left' held held' now → Consumes left' left'' [] → Reading b turns left left'' held held' now
+reading_stop {b} {turns} {left} {left'} {left''} {held} {held'} {now} f a = record {
+  text = f.text;
+  long = f.long;
+  taken = rw (append-nil f.text) at (consumes_more left left' left'' f.text [] f.taken a);
+  reads = f.reads;
+  written = f.written;
+}
+
+pub answered : {b : List ℕ} {turns : ℕ} {left left' held held' held'' : Option (List ℕ)} {now : Reader} (f : Reading b turns left left' held held' now) → (length f.text < 2 ^ 64 - 1 → IsAtEnd left') → Appends held' held'' (prints_last now)
+    → Answered b left left' held held''
+answered {b} {turns} {left} {left'} {held} {held'} {held''} {now} f e w = record {
+  text = f.text;
+  taken = f.taken;
+  whole = e;
+  written =
+      rw (← reads.by_lines b f.text)
+      (appends_more held held' held'' (prints_all (reader b []) f.text) (prints_last (fed_all (reader b []) f.text)) f.written (rw f.reads at w));
+}
+
+pub on_ok : {T E P Q : Type 0} (r : Result T E) → (P → Q) → OnOk r P → OnOk r Q
+on_ok (Ok x) f p = f p
+on_ok (Err e) f p = tt

@@ -27,4 +27,4 @@ pub returns-in-87 : goal.returns-in-87
 returns-in-87 c = c.walk_call.ensures ∙ sym (parsed-walk c.args.text.now (omega arith) c.if-n-gt31.false c.in-87.is)
 
 pub returns-in_default : goal.returns-in_default
-returns-in_default c = parsed-other c.args.text.now (omega arith) c.if-n-gt31.false c.in_default.rest.0.0.0.1 c.in_default.rest.0.0.1 c.in_default.rest.0.1 c.in_default.rest.1
+returns-in_default c = parsed-other c.args.text.now (omega arith) c.if-n-gt31.false (omega arith) (omega arith) (omega arith) (omega arith)

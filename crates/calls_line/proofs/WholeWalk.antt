@@ -21,7 +21,7 @@ use Rattle.entry_tree.proofs.Count.{same, diff, below, above, compare_eq, compar
 use Rattle.regular_valid.proofs.Facts.{Facts, Ordered, onil, ocons, at_most}
 use Rattle.regular_valid.proofs.Valid.{valid-whole}
 use Rattle.regular_valid.proofs.Mean.{means}
-use Rattle.calls_line.specs.Lines.{decimal, Shown, shown, printed, next, named, walk, said, entries_on, WalkMeans}
+use Rattle.calls_line.specs.Lines.{decimal, Shown, shown, printed, next, named, said, entries_on, WalkMeans}
 use Rattle.calls_line.proofs.WalkLaws.{named_end}
 
 -- ---- lists of pairs

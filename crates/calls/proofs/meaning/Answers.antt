@@ -1,5 +1,4 @@
 use Rattle.calls.proofs.ReaderLaws.{reads}
-use Rattle.calls.proofs.ReaderLaws.{reads}
 use Rattle.calls.proofs.meaning.Goals as goal
 
 pub returns : goal.returns

@@ -1,8 +1,5 @@
-use Prim.Native.Nat.{◌+◌, ◌-◌, ◌≤◌}
-use mathlib.Core.Path.{◌≡◌, sym, ◌∙◌}
+use mathlib.Core.Path.{sym, ◌∙◌}
 use native.Mathlib.Omega.{arith}
-use lib.ListN.{length, drop}
-use Rattle.calls_line.specs.Lines as lines
 use Rattle.calls_line.proofs.ReadLaws.{digits_more, digits_stop, digits_end}
 use Rattle.calls_line.proofs.parsing.digits.Goals as goal
 

@@ -1,9 +1,7 @@
 use Prim.Native.Nat.{◌+◌, ◌-◌, ◌≤◌}
-use mathlib.Core.Path.{◌≡◌, sym, ◌∙◌}
-use native.Mathlib.Omega.{arith}
+use mathlib.Core.Path.{◌≡◌}
 use lib.ListN.{length, drop}
 use Rattle.calls_line.specs.Lines as lines
-use Rattle.calls_line.proofs.ReadLaws.{digits_more, digits_stop, digits_end}
 use Rattle.calls_line.proofs.parsing.digits.Given as goal
 
 abbrev pub invariant-loop-i : goal.invariant-loop-i

@@ -1,4 +1,3 @@
-use borrow.Author.Rules.{rules}
 use Rattle.calls_line.specs.Lines.{front}
 use lib.ListN.{drop}
 use Rattle.calls_line.proofs.ReadLaws.{last-absent, last-number, last_more}

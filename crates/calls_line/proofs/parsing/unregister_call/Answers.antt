@@ -1,4 +1,3 @@
-use borrow.Author.Rules.{rules}
 use Rattle.calls_line.specs.declared.parsing.Call.TheVariants.{Unregister}
 use Rattle.calls_line.proofs.ReadLaws.{last_none, last_taken}
 use Rattle.calls_line.proofs.parsing.unregister_call.Goals as goal

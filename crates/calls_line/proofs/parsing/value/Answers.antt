@@ -1,9 +1,5 @@
-use borrow.Author.Rules.{rules}
-use Prim.Native.Nat.{◌-◌, ◌^◌, ◌<◌, ◌≤◌}
-use mathlib.Core.Path.{◌≡◌, refl, sym, ◌∙◌}
+use mathlib.Core.Path.{refl, sym, ◌∙◌}
 use native.Mathlib.Omega.{arith}
-use lib.ListN.{take, drop}
-use Rattle.calls_line.specs.Lines as lines
 use Rattle.calls_line.proofs.ReadLaws.{at_least, at_most, small, digits-left, power_left, value-left, starts, value_end}
 use Rattle.calls_line.proofs.parsing.value.Goals as goal
 

@@ -1,10 +1,7 @@
-use borrow.Author.Rules.{rules}
 use Prim.Native.Nat.{◌-◌, ◌^◌, ◌<◌, ◌≤◌}
-use mathlib.Core.Path.{◌≡◌, refl, sym, ◌∙◌}
-use native.Mathlib.Omega.{arith}
+use mathlib.Core.Path.{◌≡◌}
 use lib.ListN.{take, drop}
 use Rattle.calls_line.specs.Lines as lines
-use Rattle.calls_line.proofs.ReadLaws.{at_least, at_most, small, digits-left, power_left, value-left, starts, value_end}
 use Rattle.calls_line.proofs.parsing.value.Given as goal
 
 abbrev pub invariant-loop-i : goal.invariant-loop-i

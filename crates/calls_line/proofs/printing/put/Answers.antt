@@ -1,7 +1,4 @@
-use Prim.Native.Nat.{◌-◌, ◌≤◌}
-use mathlib.Core.Path.{◌≡◌}
 use native.Mathlib.Omega.{arith}
-use lib.Seq.{paste}
 use Rattle.calls_line.proofs.PrintLaws.{copy_none, copy_more, copy_whole, copy_length}
 use Rattle.calls_line.proofs.printing.put.Goals as goal
 

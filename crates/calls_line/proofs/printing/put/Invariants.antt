@@ -1,8 +1,6 @@
 use Prim.Native.Nat.{◌-◌, ◌≤◌}
 use mathlib.Core.Path.{◌≡◌}
-use native.Mathlib.Omega.{arith}
 use lib.Seq.{paste}
-use Rattle.calls_line.proofs.PrintLaws.{copy_none, copy_more, copy_whole, copy_length}
 use Rattle.calls_line.proofs.printing.put.Given as goal
 
 abbrev pub invariant-loop-i : goal.invariant-loop-i

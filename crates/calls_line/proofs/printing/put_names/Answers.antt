@@ -1,5 +1,5 @@
 use native.Mathlib.Omega.{arith}
-use Rattle.calls_line.proofs.WalkLaws.{Walking, walking_starts, walking_ends, walking_full, walking_more}
+use Rattle.calls_line.proofs.WalkLaws.{walking_starts, walking_ends, walking_full, walking_more}
 use Rattle.calls_line.proofs.printing.put_names.Goals as goal
 
 pub loop-left-init : goal.loop-left-init

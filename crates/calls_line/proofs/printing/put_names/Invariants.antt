@@ -1,5 +1,4 @@
-use native.Mathlib.Omega.{arith}
-use Rattle.calls_line.proofs.WalkLaws.{Walking, walking_starts, walking_ends, walking_full, walking_more}
+use Rattle.calls_line.proofs.WalkLaws.{Walking}
 use Rattle.calls_line.proofs.printing.put_names.Given as goal
 
 abbrev pub invariant-loop-left : goal.invariant-loop-left

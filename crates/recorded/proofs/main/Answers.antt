@@ -1,7 +1,0 @@
-use borrow.Author.Rules.{rules}
-use mathlib.Core.Path.{◌≡◌, refl}
-use lib.ListN.{length}
-use Rattle.recorded.proofs.main.Goals as goal
-
-pub loop-turns-init : goal.loop-turns-init
-loop-turns-init c = (refl, refl)

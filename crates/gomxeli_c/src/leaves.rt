@@ -1,0 +1,255 @@
+// Identifiers, priorities, sets of priorities and the tail byte. A priority above 7 is refused with 3.
+ghost use Rattle.std.specs.Prelude.{◌≡◌, not, ◌&&◌, ◌||◌, ◌+◌, ◌%◌, eqb, leb, ltb};
+ghost use Rattle.state.specs.Seq.{to_nat};
+ghost use Rattle.emcyphal_core.specs.Ids.{nodes, subjects, services, transfers, maybe_node, maybe_subject, maybe_service, maybe_transfer};
+ghost use Rattle.emcyphal_core.specs.Priorities.{maybe_priority, before};
+ghost use Rattle.emcyphal_core.specs.Sets.{has, set_of, without, is_empty, first_of, last_of, next_of};
+ghost use Rattle.format.specs.Tail.{tail_byte, eot_frame};
+ghost use Rattle.gomxeli.specs.Answers.{packed, priority_answer, subject_answer, service_answer, node_answer, transfer_answer, eot_answer, next_answer, with_priority};
+
+#[unsafe(no_mangle)]
+pub extern "C" fn gomxeli_subject_id_new(value: u16) -> u64
+    ensures { result ≡ subject_answer (maybe_subject value) }
+{
+    gomxeli::leaves::gomxeli_subject_id_new(value)
+}
+
+#[unsafe(no_mangle)]
+pub extern "C" fn gomxeli_subject_id_from_u16_truncating(value: u16) -> u64
+    ensures { result ≡ packed 0 0 (value % subjects) 0 }
+{
+    gomxeli::leaves::gomxeli_subject_id_from_u16_truncating(value)
+}
+
+#[unsafe(no_mangle)]
+pub extern "C" fn gomxeli_service_id_new(value: u16) -> u64
+    ensures { result ≡ service_answer (maybe_service value) }
+{
+    gomxeli::leaves::gomxeli_service_id_new(value)
+}
+
+#[unsafe(no_mangle)]
+pub extern "C" fn gomxeli_service_id_from_u16_truncating(value: u16) -> u64
+    ensures { result ≡ packed 0 0 (value % services) 0 }
+{
+    gomxeli::leaves::gomxeli_service_id_from_u16_truncating(value)
+}
+
+#[unsafe(no_mangle)]
+pub extern "C" fn gomxeli_node_id_new(value: u8) -> u64
+    ensures { result ≡ node_answer (maybe_node value) }
+{
+    gomxeli::leaves::gomxeli_node_id_new(value)
+}
+
+#[unsafe(no_mangle)]
+pub extern "C" fn gomxeli_node_id_from_u8_truncating(value: u8) -> u64
+    ensures { result ≡ packed 0 0 (value % nodes) 0 }
+{
+    gomxeli::leaves::gomxeli_node_id_from_u8_truncating(value)
+}
+
+#[unsafe(no_mangle)]
+pub extern "C" fn gomxeli_transfer_id_new(value: u8) -> u64
+    ensures { result ≡ transfer_answer (maybe_transfer value) }
+{
+    gomxeli::leaves::gomxeli_transfer_id_new(value)
+}
+
+#[unsafe(no_mangle)]
+pub extern "C" fn gomxeli_transfer_id_from_u8_truncating(value: u8) -> u64
+    ensures { result ≡ packed 0 0 (value % transfers) 0 }
+{
+    gomxeli::leaves::gomxeli_transfer_id_from_u8_truncating(value)
+}
+
+// Of the argument the low five bits count.
+#[unsafe(no_mangle)]
+pub extern "C" fn gomxeli_transfer_id_next(id: u8) -> u64
+    ensures { result ≡ packed 0 0 ((id % transfers + 1) % transfers) 0 }
+{
+    gomxeli::leaves::gomxeli_transfer_id_next(id)
+}
+
+#[unsafe(no_mangle)]
+pub extern "C" fn gomxeli_priority_try_from_u8(value: u8) -> u64
+    ensures { result ≡ priority_answer (maybe_priority value) }
+{
+    gomxeli::leaves::gomxeli_priority_try_from_u8(value)
+}
+
+#[unsafe(no_mangle)]
+pub extern "C" fn gomxeli_priority_from_u8_truncating(value: u8) -> u64
+    ensures { result ≡ packed 0 0 (value % 8) 0 }
+{
+    gomxeli::leaves::gomxeli_priority_from_u8_truncating(value)
+}
+
+#[unsafe(no_mangle)]
+pub extern "C" fn gomxeli_priority_next(priority: u8) -> u64
+    ensures { result ≡ with_priority priority (priority_answer (maybe_priority (priority + 1))) }
+{
+    gomxeli::leaves::gomxeli_priority_next(priority)
+}
+
+#[unsafe(no_mangle)]
+pub extern "C" fn gomxeli_priority_prev(priority: u8) -> u64
+    ensures { result ≡ with_priority priority (priority_answer (before priority)) }
+{
+    gomxeli::leaves::gomxeli_priority_prev(priority)
+}
+
+#[unsafe(no_mangle)]
+pub extern "C" fn gomxeli_priority_set_new_eq(priority: u8) -> u64
+    ensures { result ≡ with_priority priority (packed 0 0 (set_of (λ p. eqb p priority)) 0) }
+{
+    gomxeli::leaves::gomxeli_priority_set_new_eq(priority)
+}
+
+#[unsafe(no_mangle)]
+pub extern "C" fn gomxeli_priority_set_new_ge(priority: u8) -> u64
+    ensures { result ≡ with_priority priority (packed 0 0 (set_of (λ p. leb priority p)) 0) }
+{
+    gomxeli::leaves::gomxeli_priority_set_new_ge(priority)
+}
+
+#[unsafe(no_mangle)]
+pub extern "C" fn gomxeli_priority_set_new_le(priority: u8) -> u64
+    ensures { result ≡ with_priority priority (packed 0 0 (set_of (λ p. leb p priority)) 0) }
+{
+    gomxeli::leaves::gomxeli_priority_set_new_le(priority)
+}
+
+#[unsafe(no_mangle)]
+pub extern "C" fn gomxeli_priority_set_new_gt(priority: u8) -> u64
+    ensures { result ≡ with_priority priority (packed 0 0 (set_of (λ p. ltb priority p)) 0) }
+{
+    gomxeli::leaves::gomxeli_priority_set_new_gt(priority)
+}
+
+#[unsafe(no_mangle)]
+pub extern "C" fn gomxeli_priority_set_new_lt(priority: u8) -> u64
+    ensures { result ≡ with_priority priority (packed 0 0 (set_of (λ p. ltb p priority)) 0) }
+{
+    gomxeli::leaves::gomxeli_priority_set_new_lt(priority)
+}
+
+#[unsafe(no_mangle)]
+pub extern "C" fn gomxeli_priority_set_contains(bits: u8, priority: u8) -> u64
+    ensures { result ≡ with_priority priority (packed 0 (to_nat (has bits priority)) 0 0) }
+{
+    gomxeli::leaves::gomxeli_priority_set_contains(bits, priority)
+}
+
+#[unsafe(no_mangle)]
+pub extern "C" fn gomxeli_priority_set_insert(bits: u8, priority: u8) -> u64
+    ensures { result ≡ with_priority priority (packed 0 0 (set_of (λ p. has bits p || eqb p priority)) 0) }
+{
+    gomxeli::leaves::gomxeli_priority_set_insert(bits, priority)
+}
+
+#[unsafe(no_mangle)]
+pub extern "C" fn gomxeli_priority_set_remove(bits: u8, priority: u8) -> u64
+    ensures { result ≡ with_priority priority (packed 0 0 (without bits priority) 0) }
+{
+    gomxeli::leaves::gomxeli_priority_set_remove(bits, priority)
+}
+
+#[unsafe(no_mangle)]
+pub extern "C" fn gomxeli_priority_set_first(bits: u8) -> u64
+    ensures { result ≡ priority_answer (first_of bits) }
+{
+    gomxeli::leaves::gomxeli_priority_set_first(bits)
+}
+
+#[unsafe(no_mangle)]
+pub extern "C" fn gomxeli_priority_set_last(bits: u8) -> u64
+    ensures { result ≡ priority_answer (last_of bits) }
+{
+    gomxeli::leaves::gomxeli_priority_set_last(bits)
+}
+
+#[unsafe(no_mangle)]
+pub extern "C" fn gomxeli_priority_set_is_empty(bits: u8) -> u64
+    ensures { result ≡ packed 0 (to_nat (is_empty bits)) 0 0 }
+{
+    gomxeli::leaves::gomxeli_priority_set_is_empty(bits)
+}
+
+#[unsafe(no_mangle)]
+pub extern "C" fn gomxeli_priority_set_complement(bits: u8) -> u64
+    ensures { result ≡ packed 0 0 (set_of (λ p. not (has bits p))) 0 }
+{
+    gomxeli::leaves::gomxeli_priority_set_complement(bits)
+}
+
+#[unsafe(no_mangle)]
+pub extern "C" fn gomxeli_priority_set_not(bits: u8) -> u64
+    ensures { result ≡ packed 0 0 (set_of (λ p. not (has bits p))) 0 }
+{
+    gomxeli::leaves::gomxeli_priority_set_not(bits)
+}
+
+#[unsafe(no_mangle)]
+pub extern "C" fn gomxeli_priority_set_bitand(a: u8, b: u8) -> u64
+    ensures { result ≡ packed 0 0 (set_of (λ p. has a p && has b p)) 0 }
+{
+    gomxeli::leaves::gomxeli_priority_set_bitand(a, b)
+}
+
+#[unsafe(no_mangle)]
+pub extern "C" fn gomxeli_priority_set_bitor(a: u8, b: u8) -> u64
+    ensures { result ≡ packed 0 0 (set_of (λ p. has a p || has b p)) 0 }
+{
+    gomxeli::leaves::gomxeli_priority_set_bitor(a, b)
+}
+
+#[unsafe(no_mangle)]
+pub extern "C" fn gomxeli_priority_set_iter_next(bits: u8) -> u64
+    ensures { result ≡ next_answer (next_of bits) }
+{
+    gomxeli::leaves::gomxeli_priority_set_iter_next(bits)
+}
+
+// A flag is set where it is not 0.
+#[unsafe(no_mangle)]
+pub extern "C" fn gomxeli_tail_byte_new(sot: u8, eot: u8, toggle: u8, transfer_id: u8) -> u64
+    ensures { result ≡ packed 0 0 (tail_byte (ltb 0 sot) (ltb 0 eot) (ltb 0 toggle) (transfer_id % transfers)) 0 }
+{
+    gomxeli::leaves::gomxeli_tail_byte_new(sot, eot, toggle, transfer_id)
+}
+
+#[unsafe(no_mangle)]
+pub extern "C" fn gomxeli_tail_byte_sot(byte: u8) -> u64
+    ensures { result ≡ packed 0 (to_nat (has byte 7)) 0 0 }
+{
+    gomxeli::leaves::gomxeli_tail_byte_sot(byte)
+}
+
+#[unsafe(no_mangle)]
+pub extern "C" fn gomxeli_tail_byte_eot(byte: u8) -> u64
+    ensures { result ≡ packed 0 (to_nat (has byte 6)) 0 0 }
+{
+    gomxeli::leaves::gomxeli_tail_byte_eot(byte)
+}
+
+#[unsafe(no_mangle)]
+pub extern "C" fn gomxeli_tail_byte_toggle(byte: u8) -> u64
+    ensures { result ≡ packed 0 (to_nat (has byte 5)) 0 0 }
+{
+    gomxeli::leaves::gomxeli_tail_byte_toggle(byte)
+}
+
+#[unsafe(no_mangle)]
+pub extern "C" fn gomxeli_tail_byte_transfer_id(byte: u8) -> u64
+    ensures { result ≡ packed 0 0 (byte % transfers) 0 }
+{
+    gomxeli::leaves::gomxeli_tail_byte_transfer_id(byte)
+}
+
+#[unsafe(no_mangle)]
+pub extern "C" fn gomxeli_is_eot_frame(frame: &[u8]) -> u64
+    ensures { result ≡ eot_answer (eot_frame frame.now) }
+{
+    gomxeli::leaves::gomxeli_is_eot_frame(frame)
+}

@@ -1,0 +1,66 @@
+// The calls of list queues. Each contract is the call's line of `does` in specs/Calls.antt.
+ghost use Rattle.std.specs.Prelude.{◌≡◌};
+ghost use Rattle.gomxeli.specs.Calls.{does, McqOpen, McqFront, McqBack, McqIsEmpty, McqIsFront, McqIsBack, McqRemove, McqMoveFront, McqMoveBack};
+
+#[unsafe(no_mangle)]
+pub extern "C" fn gomxeli_mcq_open(s: &mut [u8], classes: u32, entries: u32) -> u64
+    ensures { (result ≡ (does (McqOpen classes entries) s.old).answer) × (s.new ≡ (does (McqOpen classes entries) s.old).bytes) }
+{
+    gomxeli::mcq::gomxeli_mcq_open(s, classes, entries)
+}
+
+#[unsafe(no_mangle)]
+pub extern "C" fn gomxeli_mcq_front(s: &[u8], class: u32) -> u64
+    ensures { result ≡ (does (McqFront class) s.now).answer }
+{
+    gomxeli::mcq::gomxeli_mcq_front(s, class)
+}
+
+#[unsafe(no_mangle)]
+pub extern "C" fn gomxeli_mcq_back(s: &[u8], class: u32) -> u64
+    ensures { result ≡ (does (McqBack class) s.now).answer }
+{
+    gomxeli::mcq::gomxeli_mcq_back(s, class)
+}
+
+#[unsafe(no_mangle)]
+pub extern "C" fn gomxeli_mcq_is_empty(s: &[u8], class: u32) -> u64
+    ensures { result ≡ (does (McqIsEmpty class) s.now).answer }
+{
+    gomxeli::mcq::gomxeli_mcq_is_empty(s, class)
+}
+
+#[unsafe(no_mangle)]
+pub extern "C" fn gomxeli_mcq_is_front(s: &[u8], entry: u32) -> u64
+    ensures { result ≡ (does (McqIsFront entry) s.now).answer }
+{
+    gomxeli::mcq::gomxeli_mcq_is_front(s, entry)
+}
+
+#[unsafe(no_mangle)]
+pub extern "C" fn gomxeli_mcq_is_back(s: &[u8], entry: u32) -> u64
+    ensures { result ≡ (does (McqIsBack entry) s.now).answer }
+{
+    gomxeli::mcq::gomxeli_mcq_is_back(s, entry)
+}
+
+#[unsafe(no_mangle)]
+pub extern "C" fn gomxeli_mcq_remove(s: &mut [u8], entry: u32) -> u64
+    ensures { (result ≡ (does (McqRemove entry) s.old).answer) × (s.new ≡ (does (McqRemove entry) s.old).bytes) }
+{
+    gomxeli::mcq::gomxeli_mcq_remove(s, entry)
+}
+
+#[unsafe(no_mangle)]
+pub extern "C" fn gomxeli_mcq_move_front(s: &mut [u8], class: u32, entry: u32) -> u64
+    ensures { (result ≡ (does (McqMoveFront class entry) s.old).answer) × (s.new ≡ (does (McqMoveFront class entry) s.old).bytes) }
+{
+    gomxeli::mcq::gomxeli_mcq_move_front(s, class, entry)
+}
+
+#[unsafe(no_mangle)]
+pub extern "C" fn gomxeli_mcq_move_back(s: &mut [u8], class: u32, entry: u32) -> u64
+    ensures { (result ≡ (does (McqMoveBack class entry) s.old).answer) × (s.new ≡ (does (McqMoveBack class entry) s.old).bytes) }
+{
+    gomxeli::mcq::gomxeli_mcq_move_back(s, class, entry)
+}

@@ -1,17 +1,20 @@
-"""What a check's log says of a function: shared by .ci/refused, which reads the logs of must-fail edits, and by mutation/run."""
+"""What a check's log says of a function: shared by .ci/refused, which checks the must-fail edits, and by mutation/run."""
 import re
 
-# The proof file names what the code has no more: a need, or a field of what is known there.
-UNFIT = re.compile(r"that can be named from here|has no field|expected type `tie\.Need-")
+# The proof file names what the code has no more: a goal, or a field of what is known there.
+UNFIT = re.compile(r"that can be named from here|has no field")
 # The edit is no code or no definition.
-NO_CODE = re.compile(r"is not in scope|/(?:src|specs)/[^ ]*: error")
+NO_CODE = re.compile(r"is not in scope|(?m:^(?:\./)?(?:src|specs)/[^ ]*: error)")
 # A fact is named that does not hold: omega shows numbers at which it fails; two propositions or values that had to be one differ; a path's
-# ends do. What another tactic says of itself, as search that finds no proof, is no such fact.
+# ends do; the prover found values at which a goal fails. What another tactic says of itself, as search that finds no proof, is no such fact.
 FACT = re.compile(
     r"error: `[^`]*`: (?:`omega`: the goal does not follow from what it read\. All of that holds, and the goal fails[,.]"
     r"|`[^`\n]*` ≟ `"
     r"|(?!`)[\s\S]*(?:the two (?:types|sides|values|indices) |expected type `[\s\S]*but this has type `|must be a path whose two ends are equal))"
+    r"|the facts known there allow values at which this goal is false|may be false: the known facts allow "
 )
+# A goal that no file answers, and that the prover does not prove by itself.
+OPEN = re.compile(r"it is not proved that ")
 # It waits for a declaration that is refused for its own reason.
 WAITS = re.compile(r"was not admitted .*so this cannot be checked")
 
@@ -26,23 +29,61 @@ def refused(said, crate):
     return {name for name, verdict in verdicts(said, crate).items() if verdict != "proved" and "it calls" not in verdict}
 
 
-def errors(said):
-    """Each error: its file, its line, and its whole text."""
-    starts = [m for m in re.finditer(r"(?m)^(?:(\S+?):(\d+):\d+: )?(error|note|warning|help|fn|enum|struct|logic|library|crate|rt:)\b.*$", said)]
+def is_proved(said):
+    return bool(re.search(r"(?m)^logic=proved ", said))
+
+
+def is_judged(said):
+    """Whether the check came to an end: where it did not, the front end rejects the text, or the prover met a limit."""
+    return bool(re.search(r"(?m)^logic=", said))
+
+
+class Part:
+    """A note, an error or a verdict: its kind, the file and line that it names, and its whole text."""
+
+    def __init__(self, kind, file, line, text):
+        self.kind, self.file, self.line, self.text = kind, file.removeprefix("./"), line, text
+
+
+def parts(said):
+    place = r"(?:(\S+?):(\d+):\d+: )?"
+    starts = list(re.finditer(rf"(?m)^{place}(error|note|warning|help|fn|enum|struct|logic|library|crate|statements|checked|rt:)\b:? ?{place}.*$", said))
     found = []
     for i, match in enumerate(starts):
         end = starts[i + 1].start() if i + 1 < len(starts) else len(said)
-        if match[3] == "error":
-            found.append((match[1] or "", int(match[2] or 0), said[match.start() : end].strip()))
+        found.append(Part(match[3], match[1] or match[4] or "", int(match[2] or match[5] or 0), said[match.start() : end].strip()))
     return found
 
 
+def errors(said):
+    """Each error: its file, its line, and its whole text."""
+    return [(part.file, part.line, part.text) for part in parts(said) if part.kind == "error"]
+
+
 def own(said, name):
-    """The errors in the function's own proof, but those that wait for another's, each from its place in the file on."""
-    file = f"/proofs/{name.replace('::', '/')}/Proof.antt"
-    return [text.partition(file)[2] for path, _, text in errors(said) if path.endswith(file) and not WAITS.search(text)]
+    """The errors in the function's own proof files, but those that wait for another's, each from its place in the file on; and the notes
+    on its own goals: those that stand just before its verdict, and those that name a proof file of its."""
+    folder, found, before = f"proofs/{name.replace('::', '/')}/", [], []
+    for part in parts(said):
+        own = part.file.startswith(folder) and "/" not in part.file[len(folder) :]
+        if part.kind == "error" and own and not WAITS.search(part.text):
+            found.append(part.text.partition(folder)[2])
+        elif part.kind == "note" and re.match(rf"note: `[^`]*` of {re.escape(folder)}[^/ ]* ", part.text):
+            found.append(part.text)
+        elif part.kind == "note":
+            before.append(part.text)
+        elif part.kind in ("fn", "enum", "struct"):
+            if re.match(rf"fn \w+::{name}: ", part.text):
+                found += [text for text in before if OPEN.search(text)]
+            before = []
+    return found
 
 
 def facts(texts):
-    """The errors that name a fact."""
+    """Those that name a fact."""
     return [text for text in texts if FACT.search(text) and not UNFIT.search(text)]
+
+
+def told(said):
+    """All facts that the log names, of any function or law."""
+    return facts(part.text for part in parts(said) if part.kind in ("error", "note"))

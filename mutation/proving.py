@@ -1,26 +1,51 @@
 """Puts mutants into a copy of the tree and has their crate checked there, over what an earlier check of the copy kept."""
 import os
+import pathlib
+import re
 import shutil
 import subprocess
+import tempfile
 
 import logs
-from source import Trouble, root
+from source import Trouble, crates_of, root
 
 WORK = root / "target/mutation"
+PARTS = ("src", "specs", "proofs")
+
+
+def link(one, other):
+    """A second name for a file of a library, which rt removes before it makes it anew."""
+    try:
+        os.link(one, other)
+    except OSError:
+        shutil.copy2(one, other)
 
 
 class Copy:
-    """A copy of the crates in which one of them is changed. The libraries that it stands on are the tree's own, proved ones."""
+    """A copy of a crate that is changed, and of those that it stands on, with their libraries where they are built. It stands outside the
+    repository, in which rt ci allows no other source files."""
 
     def __init__(self, crate, folder):
-        self.crate, self.place = crate, WORK / folder / crate
-        shutil.rmtree(self.place, ignore_errors=True)
-        self.place.mkdir(parents=True)
-        shutil.copytree(root / "crates", self.place / "crates", ignore=shutil.ignore_patterns("must-fail", "stdin", "stdout"))
-        shutil.copy(root / "crates.txt", self.place)
-        (self.place / "target").mkdir()
-        for part in ("rlib", "stamp"):
-            (self.place / "target" / part).symlink_to(root / "target" / part)
+        self.crate, self.room = crate, tempfile.TemporaryDirectory(prefix=f"gomxeli-{folder}-")
+        self.place = pathlib.Path(self.room.name)
+        self.folder = self.place / "crates" / crate
+        deps = crates_of(root)
+        wanted = {crate: None}
+        for name in wanted_below(deps, crate):
+            wanted[name] = None
+        lines = re.findall(r"(?m)^(\w+)(.*)$", (root / "crates.txt").read_text(encoding="utf-8"))
+        (self.place / "crates.txt").write_text("".join(f"{name}{rest}\n" for name, rest in lines if name in wanted), encoding="utf-8")
+        if (root / "HANDLES").exists():
+            shutil.copy(root / "HANDLES", self.place)
+        for name in wanted:
+            here = root / "crates" / name
+            for part in PARTS:
+                if (here / part).exists():
+                    shutil.copytree(here / part, self.place / "crates" / name / part)
+            if name != crate and (here / "out/rlib/stamp").exists():
+                shutil.copytree(here / "out/rlib", self.place / "crates" / name / "out/rlib", copy_function=link)
+        if (root / "crates" / crate / "out/incremental").exists():
+            shutil.copytree(root / "crates" / crate / "out/incremental", self.folder / "out/incremental")
         self.logs = WORK / f"{folder}.logs" / crate
         shutil.rmtree(self.logs, ignore_errors=True)
         self.logs.mkdir(parents=True)
@@ -28,9 +53,9 @@ class Copy:
     def check(self, name):
         """Checks the crate; its log."""
         ran = subprocess.run(
-            ["nice", "rt", "dev", self.crate],
-            cwd=self.place,
-            env={**os.environ, "RT_CUT": "0", "RT_JOBS": "1"},
+            ["nice", "rt", "check", "--jobs", "1"],
+            cwd=self.folder,
+            stdin=subprocess.DEVNULL,
             stdout=subprocess.PIPE,
             stderr=subprocess.STDOUT,
             check=False,
@@ -38,6 +63,19 @@ class Copy:
         said = ran.stdout.decode("utf-8", "replace")
         (self.logs / f"{name}.log").write_text(said, encoding="utf-8")
         return said
+
+    def text(self, path):
+        return (self.folder / path).read_text(encoding="utf-8")
+
+    def restore_all(self):
+        """The crate's files as they stand in the repository."""
+        for part in PARTS:
+            shutil.rmtree(self.folder / part, ignore_errors=True)
+            if (root / "crates" / self.crate / part).exists():
+                shutil.copytree(root / "crates" / self.crate / part, self.folder / part)
+
+    def remove(self):
+        self.room.cleanup()
 
     def write(self, mutants):
         """The files of the crate, with these edits and no others."""
@@ -50,6 +88,15 @@ class Copy:
     def restore(self, mutants):
         for file in {m.function.file for m in mutants}:
             (self.place / file.place.relative_to(root)).write_text(file.text, encoding="utf-8")
+
+
+def wanted_below(deps, crate):
+    """The repository's crates that a crate stands on."""
+    found = {}
+    for dep in deps.get(crate, []):
+        if dep in deps:
+            found.update(dict.fromkeys([dep, *wanted_below(deps, dep)]))
+    return list(found)
 
 
 def batches(mutants, apart):
@@ -98,8 +145,8 @@ def without_code(said, batch):
         text, tokens = function.file.text, function.file.tokens
         first = text.count("\n", 0, tokens[function.start].start) + 1
         last = text.count("\n", 0, tokens[function.end - 1].end) + 1
-        place = f"/{function.file.place.relative_to(root)}"
-        if any(path.endswith(place) and first <= line <= last for path, line, _ in logs.errors(said)):
+        place = str(function.file.place.relative_to(root / "crates" / function.file.crate))
+        if any(path == place and first <= line <= last for path, line, _ in logs.errors(said)):
             found.append(mutant)
     return found
 
@@ -130,7 +177,7 @@ class Proving:
     def __init__(self, tree, crate, folder, tell):
         self.tree, self.crate, self.tell = tree, crate, tell
         self.copy, self.results, self.number = Copy(crate, folder), {}, 0
-        if "\nlogic=proved" not in self.copy.check("unchanged"):
+        if not logs.is_proved(self.copy.check("unchanged")):
             raise Trouble(f"{crate} is not proved as it stands: {self.copy.logs}/unchanged.log")
 
     def check(self, batch):
@@ -139,7 +186,7 @@ class Proving:
         self.copy.write(batch)
         said = self.copy.check(self.number)
         self.copy.restore(batch)
-        if "\nlogic=" not in said and "\nrattle: no verdict" not in said:
+        if not logs.is_judged(said):
             rejected = without_code(said, batch)
             if not rejected:
                 raise Trouble(f"no verdict and no place: {self.copy.logs}/{self.number}.log")

@@ -267,4 +267,4 @@ def path_to(tokens, at):
 def crates_of(base):
     """Each crate's dependencies, in the order of crates.txt."""
     text = re.sub(r"#.*", "", (base / "crates.txt").read_text(encoding="utf-8"))
-    return {name: deps.split() for name, deps in re.findall(r"(?m)^(\w+):(.*)$", text)}
+    return {name: deps.split() for name, deps in re.findall(r"(?m)^(\w+)(?: staticlib)?:(.*)$", text)}

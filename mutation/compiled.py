@@ -1,6 +1,6 @@
-"""Compiles mutants with no proof and runs them. The toolchain compiles only what is proved; but Rattle's text without contracts and
-ghost lines is Rust, and rustc compiles that, with overflow checks. The exports become a shared library. The programs of driver/ and
-oracle/ are built once, by their own scripts, on an archive whose exports jump into the shared library that GOMXELI_LIBRARY names."""
+"""Compiles mutants with no proof and runs them. The toolchain compiles only what is proved; but Rattle's text without contracts, ghost
+lines and the prover's attributes is Rust, and rustc compiles that, with overflow checks. The exports of gomxeli_c become a shared
+library. The programs of driver/ and oracle/ are built once, by their own scripts, on an archive whose exports jump into the shared library that GOMXELI_LIBRARY names."""
 import os
 import re
 import shutil
@@ -16,23 +16,23 @@ RUSTC = ["nice", root / "oracle/rustc", "--edition", "2021", "-O", "-C", "overfl
 NO_LIBRARY = 99
 KINDS = ("mcq", "iq", "reg", "lb", "req", "txm", "txr", "img")
 
-# What the program `calls` uses of the kit's libraries.
+# What the program `calls` uses of the kit's libraries, and of Rattle's std that Rust's has not.
 KIT = {
-    "libc": """
-        use std::io::Read;
-        pub fn read(_: i32, to: &mut [u8]) -> isize { std::io::stdin().read(to).map_or(-1, |n| n as isize) }
-    """,
-    "io": """
-        use std::io::Write;
-        pub fn count(got: isize, of: &[u8]) -> usize { (got.max(0) as usize).min(of.len()) }
-        pub fn write_all(_: i32, from: &[u8]) -> bool { std::io::stdout().write_all(from).is_ok() }
-        pub fn decimal(n: u64, out: &mut [u8; 20]) -> usize {
-            let digits = n.to_string();
-            out[..digits.len()].copy_from_slice(digits.as_bytes());
-            digits.len()
+    "itoa": """
+        pub struct Buffer(String);
+        impl Buffer {
+            pub fn new() -> Buffer { Buffer(String::new()) }
+            pub fn format<N: ToString>(&mut self, n: N) -> &str { self.0 = n.to_string(); &self.0 }
         }
     """,
+    "host": """
+        pub use std::io::*;
+        pub struct HostRuntime;
+        impl HostRuntime { pub fn stdin(&self) -> Stdin { std::io::stdin() } }
+        pub fn writer(_: &HostRuntime) -> Stdout { std::io::stdout() }
+    """,
 }
+MAIN = "fn main(rt: HostRuntime)"
 
 FORWARD = """/* Each export jumps into the shared library that GOMXELI_LIBRARY names. */
 #include <dlfcn.h>
@@ -72,12 +72,16 @@ def must(words, **more):
 
 
 def rust_of(file, text):
-    """A file's text as Rust: contracts and ghost lines taken out, plain data copied."""
+    """A file's text as Rust: contracts, ghost lines and the prover's attributes taken out; exported by gomxeli_c alone; a program's
+    handle of the system handed to it."""
     now = File(file.crate, file.place, text)
-    edits = [(now.tokens[a].start, now.tokens[b - 1].end, "") for a, b in now.ghosts]
-    edits += [(token.start, token.start, "#[derive(Clone, Copy)] ") for token in now.declared]
-    for start, end, new in sorted(edits, reverse=True):
-        text = text[:start] + new + text[end:]
+    for a, b in sorted(now.ghosts, reverse=True):
+        text = text[: now.tokens[a].start] + text[now.tokens[b - 1].end :]
+    if file.crate == "gomxeli":
+        text = text.replace("#[unsafe(no_mangle)]", "")
+    if MAIN in text:
+        text = text.replace("use std::io;", "use host as io; use host::HostRuntime;").replace(MAIN, "fn begin(rt: HostRuntime)")
+        text += "\nfn main() -> io::Result<()> { begin(HostRuntime) }\n"
     return text
 
 
@@ -85,8 +89,8 @@ class Compiler:
     """The crates below `top` as Rust. A mutant compiles its own crate anew and those that stand on it."""
 
     def __init__(self, tree, deps, top):
-        self.tree, self.deps, self.top = tree, deps, top
-        self.out = f"lib{top}.so" if top == "gomxeli" else f"{top}.run"
+        self.tree, self.deps, self.top = tree, {**deps, "calls": [*deps["calls"], "host"]}, top
+        self.out = f"lib{top}.so" if top == "gomxeli_c" else f"{top}.run"
         self.wanted = self.below(top)
         self.base = HOME / "unchanged" / top
 
@@ -257,14 +261,14 @@ class Runs:
 
     def __init__(self, tree, deps):
         self.tree = tree
-        self.exports = Stage(Compiler(tree, deps, "gomxeli"), build_programs, by_exports, KINDS)
+        self.exports = Stage(Compiler(tree, deps, "gomxeli_c"), build_programs, by_exports, KINDS)
         self.calls = Stage(Compiler(tree, deps, "calls"), lambda: None, by_calls, None)
 
     def kinds(self, function):
         """The kinds of the exports that reach the function."""
         found = set()
         for path, export in self.tree.functions.items():
-            if path.startswith("gomxeli::") and function.path in {path} | self.tree.reaches(export):
+            if path.startswith("gomxeli_c::") and function.path in {path} | self.tree.reaches(export):
                 found |= {kind for kind in KINDS if f"::gomxeli_{kind}_" in path}
         return sorted(found)
 

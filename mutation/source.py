@@ -73,6 +73,29 @@ def parts_of(tokens, start, end, sign=","):
     return found
 
 
+def paths_of(words, before=()):
+    """The paths that a `use` names, its groups written out."""
+    path = list(before)
+    for i, word in enumerate(words):
+        if word == "{":
+            return [found for part in split_group(words[i + 1 : -1]) for found in paths_of(part, path)]
+        if word != "::":
+            path.append(word)
+    return [path]
+
+
+def split_group(words):
+    """The parts of a group, between the commas that stand in no inner one."""
+    found, depth = [[]], 0
+    for word in words:
+        depth += (word == "{") - (word == "}")
+        if word == "," and depth == 0:
+            found.append([])
+        else:
+            found[-1].append(word)
+    return [part for part in found if part]
+
+
 def spelt(tokens):
     return " ".join(token.text for token in tokens)
 
@@ -103,15 +126,20 @@ class File:
         self.tokens = tokens_of(self.text)
         self.path = [crate] if place.stem in ("lib", "main") else [crate, place.stem]
         self.functions, self.enums, self.constants, self.imports = [], {}, {}, {}
-        self.ghosts, self.declared = [], []
+        self.ghosts = []
         self.read_items(0, len(self.tokens), None)
 
     def read_items(self, at, end, owner):
         tokens, public = self.tokens, False
         while at < end:
             word = tokens[at].text
-            if word in ("enum", "struct"):
-                self.declared.append(tokens[at - 1 if public else at])
+            if word == "#":
+                bracket = at + 2 if tokens[at + 1].text == "!" else at + 1
+                close = close_of(tokens, bracket) + 1
+                if tokens[bracket + 1].text == "tactic":
+                    self.ghosts.append((at, close))
+                at = close
+                continue
             if word == "pub":
                 public = True
                 at += 1
@@ -124,8 +152,8 @@ class File:
                 at = close
             elif word == "use":
                 close = self.past(at, ";")
-                path = [t.text for t in tokens[at + 1 : close - 1] if t.text != "::"]
-                self.imports[path[-1]] = [self.crate, *path[1:]] if path[0] == "crate" else path
+                for path in paths_of([t.text for t in tokens[at + 1 : close - 1]]):
+                    self.imports[path[-1]] = [self.crate, *path[1:]] if path[0] == "crate" else path
                 at = close
             elif word == "impl":
                 open_at = self.past(at, "{") - 1
@@ -185,7 +213,7 @@ class File:
                 at += 1
             result = spelt(tokens[begin:at])
         while tokens[at].text in ("requires", "ensures", "ghost"):
-            end = close_of(tokens, at + 1) + 1
+            end = close_of(tokens, self.past(at, "{") - 1) + 1
             self.ghosts.append((at, end))
             at = end
         end = close_of(tokens, at) + 1

@@ -35,7 +35,7 @@ def is_proved(said):
 
 def is_judged(said):
     """Whether the check came to an end: where it did not, the front end rejects the text, or the prover met a limit."""
-    return bool(re.search(r"(?m)^logic=", said))
+    return bool(re.search(r"(?m)^logic=|^rattle: no verdict", said))
 
 
 class Part:

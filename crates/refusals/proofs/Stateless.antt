@@ -30,7 +30,7 @@ use Rattle.emcyphal_core.specs.declared.MaybeTransferId.TheVariants as transfer-
 use Rattle.format.specs.Tail.{eot_frame}
 use Rattle.format.specs.declared.MaybeEot as eot
 use Rattle.format.specs.declared.MaybeEot.TheVariants as eot-says
-use Rattle.gomxeli.specs.Answers.{packed, number, image_answer, priority_answer, subject_answer, service_answer, node_answer, transfer_answer, eot_answer, next_answer, with_priority}
+use Rattle.gomxeli.specs.Answers.{number, image_answer, priority_answer, subject_answer, service_answer, node_answer, transfer_answer, eot_answer, next_answer, with_priority}
 use Rattle.gomxeli.proofs.Fields.{refusal_of}
 use Rattle.refusals.specs.Stateless.{ImgOpen, ImgAddSubject, ImgRemoveSubjectRange, ImgHasSubject, LeafCall, leaf, SubjectIdNew, SubjectIdFromU16Truncating, ServiceIdNew, ServiceIdFromU16Truncating, NodeIdNew, NodeIdFromU8Truncating, TransferIdNew, TransferIdFromU8Truncating, TransferIdNext, PriorityTryFromU8, PriorityFromU8Truncating, PriorityNext, PriorityPrev, PrioritySetNewEq, PrioritySetNewGe, PrioritySetNewLe, PrioritySetNewGt, PrioritySetNewLt, PrioritySetFirst, PrioritySetLast, PrioritySetIsEmpty, PrioritySetComplement, PrioritySetNot, PrioritySetIterNext, TailByteSot, TailByteEot, TailByteToggle, TailByteTransferId, PrioritySetContains, PrioritySetInsert, PrioritySetRemove, PrioritySetBitand, PrioritySetBitor, TailByteNew, IsEotFrame}
 use Rattle.refusals.specs.Refusals.{image_refusals}

@@ -24,7 +24,7 @@ use Rattle.filter_image.specs.Image as image
 use Rattle.gomxeli.specs.Answers.{regular_answer, accepted}
 use Rattle.gomxeli.specs.Calls as calls
 use Rattle.gomxeli.specs.Calls.{does, RegPollPop}
-use Rattle.regular_runs.specs.Runs.{Part, Now, answer, after, moved, part, covers, is_opened, is_nothing, is_add, is_removal, run, begin, NotOpened, Clear, updates, says_nothing, entries, Holds, Demand3}
+use Rattle.regular_runs.specs.Runs.{Part, Now, answer, after, part, covers, is_opened, is_nothing, is_add, is_removal, run, begin, NotOpened, Clear, updates, says_nothing, entries, Holds, Demand3}
 use Rattle.regular_runs.proofs.Others as others
 use Rattle.regular_runs.proofs.Replies.{Reply, register_reply, unregister_reply, same-accepted, no-update, start-quiet, push_quiet}
 use Rattle.regular_runs.proofs.Kept.{Good, state-long, good-begin, on-meaning, regular-kept, left-kept, refused-opening}

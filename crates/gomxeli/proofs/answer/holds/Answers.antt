@@ -1,4 +1,3 @@
-use borrow.Author.Rules.{rules}
 use mathlib.Core.Path.{ap, ◌∙◌}
 use Rattle.gomxeli.specs.Answers.{packed}
 use Rattle.gomxeli.proofs.Laws.{as_number}

@@ -1,4 +1,3 @@
-use borrow.Author.Rules.{rules}
 use mathlib.Core.Path.{refl}
 use Rattle.gomxeli.specs.Answers.{packed}
 use Rattle.gomxeli.proofs.answer.pack.Goals as goal

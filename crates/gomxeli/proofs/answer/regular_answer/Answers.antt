@@ -1,4 +1,3 @@
-use borrow.Author.Rules.{rules}
 use mathlib.Core.Path.{sym, ap, ◌∙◌}
 use Rattle.gomxeli.specs.Answers.{packed, regular_answer}
 use Rattle.gomxeli.proofs.Laws.{as_number}

@@ -1,4 +1,3 @@
-use borrow.Author.Rules.{rules}
 use mathlib.Core.Path.{sym, ap, ◌∙◌}
 use Rattle.gomxeli.specs.Answers.{request_answer}
 use Rattle.gomxeli.proofs.answer.request_answer.Goals as goal

@@ -1,4 +1,3 @@
-use borrow.Author.Rules.{rules}
 use mathlib.Core.Path.{ap, ◌∙◌}
 use Rattle.gomxeli.specs.Answers.{loop_back_answer}
 use Rattle.gomxeli.proofs.lb.gomxeli_lb_register.Goals as goal

@@ -1,4 +1,3 @@
-use borrow.Author.Rules.{rules}
 use mathlib.Core.Path.{ap, ◌∙◌}
 use Rattle.gomxeli.specs.Answers.{request_answer}
 use Rattle.gomxeli.proofs.req.gomxeli_req_poll_push.Goals as goal

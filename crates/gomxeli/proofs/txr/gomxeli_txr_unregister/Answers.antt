@@ -1,4 +1,3 @@
-use borrow.Author.Rules.{rules}
 use mathlib.Core.Path.{ap, ◌∙◌}
 use Rattle.gomxeli.specs.Answers.{transmit_answer}
 use Rattle.gomxeli.proofs.txr.gomxeli_txr_unregister.Goals as goal

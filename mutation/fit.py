@@ -28,7 +28,7 @@ def missing(said, name):
 
 
 def change(gone, offered):
-    """What differs between two names, with the word before it."""
+    """What differs between two names, with the word before it, or with a dash where that is a word of every name."""
     old, new = gone.split("-"), offered.split("-")
     start = 0
     while start < min(len(old), len(new)) - 1 and old[start] == new[start]:
@@ -36,8 +36,10 @@ def change(gone, offered):
     end = 0
     while end < min(len(old), len(new)) - start - 1 and old[-1 - end] == new[-1 - end]:
         end += 1
-    start -= start > 0 and old[start - 1] not in ("if", "then", "else", "returns")
-    return "-".join(old[start : len(old) - end]), "-".join(new[start : len(new) - end])
+    after = "-" * (start > 0)
+    if start > 0 and old[start - 1] not in ("if", "then", "else", "returns"):
+        start, after = start - 1, ""
+    return after + "-".join(old[start : len(old) - end]), after + "-".join(new[start : len(new) - end])
 
 
 def renamings(said, name, text):
@@ -60,7 +62,8 @@ def fit(said, name, folder):
     for file in files:
         text = new = file.read_text(encoding="utf-8")
         for old, other in found.items():
-            new = re.sub(rf"(?m)(?<![^\s.(‹«-]){re.escape(old)}(?![\w'])", other, new)
+            before = "" if old.startswith("-") else r"(?<![^\s.(‹«-])"
+            new = re.sub(rf"{before}{re.escape(old)}(?![\w'])", other, new)
         new = "\n".join(was if was.startswith("use ") else line for was, line in zip(text.split("\n"), new.split("\n")))
         if new != text:
             file.write_text(new, encoding="utf-8")

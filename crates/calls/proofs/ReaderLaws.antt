@@ -175,11 +175,15 @@ unfolding printed
 last-some s [] h = absurd (omega arith)
 last-some s (x ∷ p) h = append-nil (does s (x ∷ p)).text
 
--- r bytes are printed
-pub last-line : (s part out : List ℕ) (n : ℕ) {out' : List ℕ} {r : ℕ} → (n ≡ 0 → ⊥) → n ≤ length part → r ≡ length (does s (take n part)).text → out' ≡ (does s (take n part)).text ++ drop r out
+-- r bytes are written
+last-line : (s part out : List ℕ) (n : ℕ) {out' : List ℕ} {r : ℕ} → (n ≡ 0 → ⊥) → n ≤ length part → r ≡ length (does s (take n part)).text → out' ≡ (does s (take n part)).text ++ drop r out
     → take r out' ≡ prints_last (reader s (take n part))
 last-line s part out n {out'} {r} z h e t =
     rw (last-some s (take n part) (omega (arith, length-take-le n part h)), t) (take_at (does s (take n part)).text (drop r out) r (sym e))
+
+pub last-written : {T E : Type 0} (res : Result T E) (held held' : Option (List ℕ)) (s part out : List ℕ) (n : ℕ) {out' : List ℕ} {r : ℕ} → (n ≡ 0 → ⊥) → n ≤ length part → r ≡ length (does s (take n part)).text
+    → out' ≡ (does s (take n part)).text ++ drop r out → OnOk res (Appends held held' (take r out')) → OnOk res (Appends held held' (prints_last (reader s (take n part))))
+last-written res held held' s part out n z h e t w = rw (last-line s part out n z h e t) at w
 
 -- ---- the input, after some turns that each took a byte at least
 

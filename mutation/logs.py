@@ -16,7 +16,7 @@ FACT = re.compile(
 # A goal that no file answers, and that the prover does not prove by itself.
 OPEN = re.compile(r"it is not proved that ")
 # It waits for a declaration that is refused for its own reason.
-WAITS = re.compile(r"depends? on .*not admitted, w(?:as|ere) not checked|was not admitted .*so this cannot be checked")
+WAITS = re.compile(r"was not admitted .*so this cannot be checked|declarations? that depends? on .* not checked")
 
 
 def verdicts(said, crate):

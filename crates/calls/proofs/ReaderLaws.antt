@@ -13,7 +13,8 @@ use lib.Seq.{take_all, take_at, take-append-le, length-take-le, take-suc, take-s
 use borrow.Author.Tests.{lt-ltb, le-ltb, ltb-true, ltb-false, ne_eqb}
 use Rattle.calls_line.specs.Lines.{does, parsed}
 use Rattle.calls_line.proofs.ReadLaws.{parsed-long}
-use Rattle.calls.specs.Reader.{Reader, reader, kept, fed, prints, fed_all, prints_all, last, lines, printed, prints_last, IsStateWithin, Answered, Reads}
+use Rattle.calls.specs.Reader.{Reader, reader, kept, fed, prints, fed_all, prints_all, last, lines, printed, prints_last, Reads}
+use Rattle.calls.specs.Inner.{IsStateWithin, Answered}
 
 -- ---- 32 bytes of a line tell what it comes to
 

@@ -1,6 +1,5 @@
 -- The reader of lines: what each byte of the input makes of the line so far, and what is printed of a whole input.
-use Rattle.std.specs.Prelude.{ℕ, ◌≡◌, ◌<◌, ◌≤◌, ◌-◌, ◌^◌, List, [], ◌∷◌, ◌++◌, cond, eqb, ltb, length, take, Option}
-use Rattle.std.specs.Io.KnownBytes.{Consumes, Appends, IsAtEnd}
+use Rattle.std.specs.Prelude.{ℕ, ◌≡◌, List, [], ◌∷◌, ◌++◌, cond, eqb, ltb, length}
 use Rattle.calls_line.specs.Lines.{does}
 
 -- the registry's bytes, and the line so far
@@ -54,15 +53,3 @@ pub record Reads : Type 0 where
   pub cut : (r : Reader) (a c : List ℕ) → (fed_all r (a ++ c) ≡ fed_all (fed_all r a) c) × (prints_all r (a ++ c) ≡ prints_all r a ++ prints_all (fed_all r a) c)
   -- the bytes of an input print what its lines print
   pub by_lines : (b input : List ℕ) → prints_all (reader b []) input ++ prints_last (fed_all (reader b []) input) ≡ printed b (lines [] input)
-
--- the bytes s are the registry's after some first bytes of a text
-abbrev pub IsStateWithin : Reader → List ℕ → List ℕ → Type 0
-IsStateWithin r text s = (i : ℕ) × (i ≤ length text) × (s ≡ (fed_all r (take i text)).state)
-
--- a reader gave a text, and a writer took what its lines print, from the registry's bytes b on: each where it is known.
--- Short of a number of bytes that no input has, the text goes to the input's end.
-pub record Answered (b : List ℕ) (left left' held held' : Option (List ℕ)) : Type 0 where
-  pub text : List ℕ
-  pub taken : Consumes left left' text
-  pub whole : length text < 2 ^ 64 - 1 → IsAtEnd left'
-  pub written : Appends held held' (printed b (lines [] text))

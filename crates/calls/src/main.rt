@@ -4,7 +4,8 @@
 ghost use Rattle.std.specs.Prelude.{◌≡◌, ◌≤◌, length, take, IfOk, OnOk, OnErr};
 ghost use Rattle.std.specs.Io.KnownBytes.{Appends};
 ghost use Rattle.calls.specs.Reader as lines;
-ghost use Rattle.calls.specs.Reader.{reader, prints, prints_all, prints_last, fed_all, IsStateWithin, Answered, Reads};
+ghost use Rattle.calls.specs.Reader.{reader, prints, prints_all, prints_last, fed_all, Reads};
+ghost use Rattle.calls.specs.Inner.{IsStateWithin, Answered};
 
 use calls_line::line;
 use rx_msg::regular_inner::open;

@@ -7,7 +7,7 @@
  * which subjects the bus filter has to pass, and which endpoint sends the next frame.
  * Reading and writing the bus, the payloads and the waiting are the caller's.
  *
- * The functions are written and proved in Rattle. `rt staticlib gomxeli` puts them
+ * The functions are written and proved in Rattle. `driver/archive_build` puts them
  * into target/staticlib/libgomxeli.a; a program includes this header and links that
  * archive. example/ has a whole driver.
  *

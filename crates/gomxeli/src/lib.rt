@@ -1,4 +1,4 @@
-// The functions exported to C, include/gomxeli.h: each calls a proved function and packs its answer into one number.
+// The functions behind the exports to C, which gomxeli_c makes: each calls a proved function and packs its answer into one number.
 #![tactic(auto)]
 
 pub mod answer;

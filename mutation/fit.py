@@ -12,7 +12,8 @@ NAME = r"[\w'*+-]+"
 
 
 def missing(said, name):
-    """Each name that the function's proof files ask for in vain, and the names that are offered in its place."""
+    """Each name that the function's proof files ask for in vain, the names that are offered in its place, and whether these stand in the
+    code's order, the last one first."""
     folder, found, goals = f"proofs/{name.replace('::', '/')}/", [], []
     for part in logs.parts(said):
         if part.kind == "help" and part.text.startswith("help: `Goals` has no "):
@@ -21,10 +22,11 @@ def missing(said, name):
             continue
         if gone := re.search(rf"has no field `({NAME})`", part.text):
             fields = part.text.partition("the fields that can be named here are ")[2].partition("\n")[0]
-            found.append((gone[1], re.findall(rf"`({NAME})`", fields) or re.findall(rf"\.({NAME})", part.text.partition("(nearest: ")[2].partition(")")[0])))
+            nearest = re.findall(rf"\.({NAME})", part.text.partition("(nearest: ")[2].partition(")")[0])
+            found.append((gone[1], re.findall(rf"`({NAME})`", fields) or nearest, bool(fields)))
         elif gone := re.search(rf"has no `({NAME})` that can be named from here(?: \(names in it that begin alike: (.*?)\))?", part.text):
-            found.append((gone[1], re.findall(rf"`({NAME})`", gone[2] or "")))
-    return [(gone, [*offered, *goals]) for gone, offered in found]
+            found.append((gone[1], re.findall(rf"`({NAME})`", gone[2] or ""), False))
+    return sorted(((gone, [*offered, *goals], ordered) for gone, offered, ordered in found), key=lambda it: not it[2])
 
 
 def change(gone, offered):
@@ -42,16 +44,42 @@ def change(gone, offered):
     return after + "-".join(old[start : len(old) - end]), after + "-".join(new[start : len(new) - end])
 
 
+def stands(name, text):
+    return re.search(rf"(?<![\w-]){re.escape(name)}(?![\w-])", text)
+
+
 def renamings(said, name, text):
     """The changes of names that fit the proof files' text to the edited code."""
     found = {}
-    for gone, offered in missing(said, name):
-        unused = [it for it in dict.fromkeys(offered) if not re.search(rf"(?<![\w-]){re.escape(it)}(?![\w-])", text)]
+    for gone, offered, ordered in missing(said, name):
+        unused = [it for it in dict.fromkeys(offered) if not stands(it, text)]
         nearest = difflib.get_close_matches(gone, unused, 1, 0.5)
-        if nearest:
+        first = re.sub(r"-[2-9]$", "", gone)
+        if nearest and ordered and first != gone and first in offered and offered.index(first) < offered.index(nearest[0]):
+            # of several places with one name the edit changed the first: the others move up
+            old, new = change(first, nearest[0])
+            found.setdefault(old, new)
+            for k in range(2, 10):
+                found.setdefault(f"{old}-{k}", f"{old}-{k - 1}" if k > 2 else old)
+            continue
+        other = re.sub(r"-2$", "", nearest[0]) if nearest else ""
+        if nearest and other != nearest[0] and stands(other, text) and text.index(gone) < text.index(other):
+            # the edit gave a place the name of a later one, which moves down
+            old, new = change(gone, other)
+            found.setdefault(old, new)
+            for k in range(1, 9):
+                found.setdefault(f"{new}-{k}" if k > 1 else new, f"{new}-{k + 1}")
+        elif nearest:
             old, new = change(gone, nearest[0])
             found.setdefault(old, new)
     return found
+
+
+def renamed(text, found):
+    """The text with all these changes of names made at once."""
+    olds = sorted(found, key=len, reverse=True)
+    before = {old: "" if old.startswith("-") else r"(?<![^\s.(‹«-])" for old in olds}
+    return re.sub("|".join(rf"{before[old]}{re.escape(old)}(?![\w'])" for old in olds), lambda m: found[m[0]], text)
 
 
 def fit(said, name, folder):
@@ -60,10 +88,8 @@ def fit(said, name, folder):
     whole = "\n".join(p.read_text(encoding="utf-8") for p in files)
     found, changed = renamings(said, name, whole), False
     for file in files:
-        text = new = file.read_text(encoding="utf-8")
-        for old, other in found.items():
-            before = "" if old.startswith("-") else r"(?<![^\s.(‹«-])"
-            new = re.sub(rf"{before}{re.escape(old)}(?![\w'])", other, new)
+        text = file.read_text(encoding="utf-8")
+        new = renamed(text, found) if found else text
         new = "\n".join(was if was.startswith("use ") else line for was, line in zip(text.split("\n"), new.split("\n")))
         if new != text:
             file.write_text(new, encoding="utf-8")

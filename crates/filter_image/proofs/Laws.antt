@@ -7,6 +7,7 @@ use mathlib.Core.List.{List, ◌∷◌}
 use native.Mathlib.Omega.{arith}
 use native.Mathlib.Nat.{zero-div}
 use native.Mathlib.Decide.{dec_lt}
+use borrow.Author.Tests.{eq-eqb}
 use lib.Dec.{lit<}
 use lib.ListN.{length, get_or, set, replicate, get_or-eq_default}
 use Rattle.state.specs.Seq.{each}
@@ -14,7 +15,7 @@ use Rattle.state.specs.Result.{Bytes}
 use Rattle.state.proofs.Seq.{get_d_each, length-each, each_get_d, each_same, set-each}
 use Rattle.emcyphal_core.specs.Sets.{has, bits, set_of}
 use Rattle.emcyphal_core.proofs.Laws.{member, small, whole, same}
-use Rattle.filter_image.specs.Image.{Subjects, holds, byte_of, image_of, none}
+use Rattle.filter_image.specs.Image.{Subjects, holds, byte_of, image_of, none, opening, bytes}
 
 -- the subject 8 i + p is bit p of byte i
 pub at_bit : (b : List ℕ) (i p : ℕ) → p < 8 → holds b (8 * i + p) ≡ has (get_or b i 0) p
@@ -86,3 +87,8 @@ fresh-image = sym (each-zero 1024)
 
 pub holds-none : (b : List ℕ) → b ≡ image_of none → (x : ℕ) → holds b x ≡ false
 holds-none b e x = rw e (elim (dec_lt x 8192) [ yes l ↦ holds-image none x l | no h ↦ holds-past none x (omega arith) ])
+
+-- opening leaves the image of no subject
+pub opened-none : (b : List ℕ) → length b ≡ 1024 → image_of none ≡ bytes b (opening b)
+unfolding opening
+opened-none b h = rw (eq-eqb (length b) 1024 h) refl

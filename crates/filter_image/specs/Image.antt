@@ -2,11 +2,10 @@
 use Rattle.std.specs.Prelude.{ℕ, ◌+◌, ◌*◌, ◌/◌, ◌%◌, List, Bool, false, cond, not, ◌&&◌, ◌||◌, eqb, leb, ltb, length, get_or}
 use Rattle.state.specs.Lengths.{image_length}
 use Rattle.state.specs.Seq.{each}
-use Rattle.state.specs.Result as state
-use Rattle.state.specs.Result.{Result, refuse, done}
+use Rattle.state.specs.Outcome as state
+use Rattle.state.specs.Outcome.{Outcome, refuse, done}
+use Rattle.state.specs.declared.Refusal.TheVariants.{Range, BadImage}
 use Rattle.emcyphal_core.specs.Sets.{has, bits}
-use Rattle.filter_image.specs.declared.Answer.{Answer}
-use Rattle.filter_image.specs.declared.Answer.TheVariants.{Refused, Done, Holds}
 
 -- which subjects pass
 abbrev pub Subjects : Type 0
@@ -26,9 +25,9 @@ image_of f = each image_length (byte_of f)
 
 -- ---- the calls
 
--- 4 where the length b is not an image's
-abbrev pub on_image : ℕ → Result Answer Subjects → Result Answer Subjects
-on_image b r = cond (eqb b image_length) r (refuse (Refused 4))
+-- refused where the length b is not an image's
+abbrev pub on_image : {A : Type 0} → ℕ → Outcome A Subjects → Outcome A Subjects
+on_image b r = cond (eqb b image_length) r (refuse BadImage)
 
 abbrev pub none : Subjects
 none x = false
@@ -39,22 +38,22 @@ with x f y = eqb y x || f y
 abbrev pub without_range : ℕ → ℕ → Subjects → Subjects
 without_range first last f y = not (leb first y && leb y last) && f y
 
-unfoldable pub opening : List ℕ → Result Answer Subjects
-opening b = on_image (length b) (done Done none)
+unfoldable pub opening : List ℕ → Outcome (Unit {0}) Subjects
+opening b = on_image (length b) (done tt none)
 
--- 3 for a subject above 8,191
-unfoldable pub add_subject : ℕ → List ℕ → Result Answer Subjects
-add_subject x b = cond (ltb 8191 x) (refuse (Refused 3)) (on_image (length b) (done Done (with x (holds b))))
+-- refused for a subject above 8,191
+unfoldable pub add_subject : ℕ → List ℕ → Outcome (Unit {0}) Subjects
+add_subject x b = cond (ltb 8191 x) (refuse Range) (on_image (length b) (done tt (with x (holds b))))
 
--- 3 for a subject above 8,191 and for a first above the last
-unfoldable pub remove_subject_range : ℕ → ℕ → List ℕ → Result Answer Subjects
+-- refused for a subject above 8,191 and for a first above the last
+unfoldable pub remove_subject_range : ℕ → ℕ → List ℕ → Outcome (Unit {0}) Subjects
 remove_subject_range first last b =
-    cond (ltb 8191 first || (ltb 8191 last || ltb last first)) (refuse (Refused 3)) (
-    on_image (length b) (done Done (without_range first last (holds b))))
+    cond (ltb 8191 first || (ltb 8191 last || ltb last first)) (refuse Range) (
+    on_image (length b) (done tt (without_range first last (holds b))))
 
-unfoldable pub has_subject : ℕ → List ℕ → Result Answer Subjects
-has_subject x b = cond (ltb 8191 x) (refuse (Refused 3)) (on_image (length b) (done (Holds (holds b x)) (holds b)))
+unfoldable pub has_subject : ℕ → List ℕ → Outcome Bool Subjects
+has_subject x b = cond (ltb 8191 x) (refuse Range) (on_image (length b) (done (holds b x) (holds b)))
 
 -- the bytes after a call: those of the set that it leaves
-abbrev pub bytes : List ℕ → Result Answer Subjects → List ℕ
+abbrev pub bytes : {A : Type 0} → List ℕ → Outcome A Subjects → List ℕ
 bytes b r = state.bytes (λ f x. image_of f) b r

@@ -1,18 +1,13 @@
-// The filter image over lent bytes. 3: a subject above 8,191, or a range whose first passes its last. 4: a length other than 1,024.
+// The filter image over lent bytes. `Range`: a subject above 8,191, or a range whose first passes its last. `BadImage`: a length other than 1,024.
 #![tactic(auto)]
 
 ghost use Rattle.std.specs.Prelude.{◌≡◌, false, ℕ, ◌+◌, ◌-◌, ◌*◌, ◌<◌, ◌≤◌, length};
-ghost use Rattle.state.specs.Result.{answer, Bytes};
-ghost use Rattle.filter_image.specs.Inner.{refusal};
+ghost use Rattle.state.specs.Outcome.{answer};
+ghost use Rattle.state.specs.Result.{Bytes};
+ghost use Rattle.filter_image.specs.Inner.{checked};
 ghost use Rattle.filter_image.specs.Image.{holds, image_of, none, without_range, bytes, opening, add_subject, remove_subject_range, has_subject};
 
-// An answer of a call. `Holds`: whether the subject is in.
-#[derive(Clone, Copy)]
-pub enum Answer {
-    Refused(u8),
-    Done,
-    Holds(bool),
-}
+use state::Refusal;
 
 // The opening image: no subject is in it.
 pub fn fresh() -> [u8; 1024]
@@ -21,45 +16,39 @@ pub fn fresh() -> [u8; 1024]
     [0; 1024]
 }
 
-pub fn open(s: &mut [u8]) -> Answer
+#[tactic(auto, unfolding(crate::specs::Image::opening))]
+pub fn open(s: &mut [u8]) -> Result<(), Refusal>
     ensures { (result ≡ answer (opening s.old)) × (s.new ≡ bytes s.old (opening s.old)) }
 {
     if s.len() != 1024 {
-        return Answer::Refused(4);
+        return Err(Refusal::BadImage);
     }
-    let zeros = fresh();
-    let mut i = 0;
-    while i < 1024 {
-        s[i] = zeros[i];
-        i += 1;
-    }
-    Answer::Done
+    s.copy_from_slice(&fresh());
+    Ok(())
 }
 
-// 3 for a subject above 8,191, 4 where the length is not an image's, else 0.
-fn refusal(s: &[u8], subject: u32) -> u8
-    ensures { result ≡ refusal subject s.now }
+// That the subject is one, and then that the bytes have an image's length.
+fn check(s: &[u8], subject: u32) -> Result<(), Refusal>
+    ensures { result ≡ checked subject s.now }
 {
     if 8191 < subject {
-        return 3;
+        Err(Refusal::Range)
+    } else if s.len() == 1024 {
+        Ok(())
+    } else {
+        Err(Refusal::BadImage)
     }
-    if 1024 != s.len() {
-        return 4;
-    }
-    0
 }
 
-pub fn add_subject(s: &mut [u8], subject: u32) -> Answer
+#[tactic(auto, using(crate::proofs::Changes::added), unfolding(crate::specs::Image::add_subject))]
+pub fn add_subject(s: &mut [u8], subject: u32) -> Result<(), Refusal>
     ensures { (result ≡ answer (add_subject subject s.old)) × (s.new ≡ bytes s.old (add_subject subject s.old)) }
 {
-    let n = refusal(s, subject);
-    if n != 0 {
-        return Answer::Refused(n);
-    }
+    check(s, subject)?;
     let x = subject as usize;
     let i = x / 8;
     s[i] = s[i] | (1u8 << (x % 8));
-    Answer::Done
+    Ok(())
 }
 
 // Takes out the subjects of byte i at its bits l to h.
@@ -67,7 +56,7 @@ fn clear_bits(s: &mut [u8], i: usize, l: usize, h: usize)
     requires { (length s.old ≡ 1024) × ((i < 1024) × ((l < 8) × (h < 8))) }
     ensures { s.new ≡ image_of (without_range (8 * i + l) (8 * i + h) (holds s.old)) }
 {
-    s[i] = s[i] & !((255u8 << l) & (255u8 >> (7 - h)));
+    s[i] &= !((255u8 << l) & (255u8 >> (7 - h)));
 }
 
 // Takes out the subjects of the bytes from `first` on, up to and without `end`.
@@ -75,10 +64,8 @@ fn clear_bytes(s: &mut [u8], first: usize, end: usize)
     requires { (length s.old ≡ 1024) × (Bytes s.old × ((0 < first) × ((first ≤ end) × (end ≤ 1024)))) }
     ensures { s.new ≡ image_of (without_range (8 * first) (8 * end - 1) (holds s.old)) }
 {
-    let mut i = first;
-    while i < end {
+    for i in first..end {
         s[i] = 0;
-        i += 1;
     }
 }
 
@@ -98,28 +85,24 @@ fn clear(s: &mut [u8], a: usize, z: usize)
     clear_bits(s, last, 0, z % 8);
 }
 
-pub fn remove_subject_range(s: &mut [u8], first: u32, last: u32) -> Answer
+#[tactic(auto, unfolding(crate::specs::Image::remove_subject_range))]
+pub fn remove_subject_range(s: &mut [u8], first: u32, last: u32) -> Result<(), Refusal>
     ensures { (result ≡ answer (remove_subject_range first last s.old)) × (s.new ≡ bytes s.old (remove_subject_range first last s.old)) }
 {
     if last < first {
-        return Answer::Refused(3);
+        return Err(Refusal::Range);
     }
-    let n = refusal(s, last);
-    if n != 0 {
-        return Answer::Refused(n);
-    }
+    check(s, last)?;
     clear(s, first as usize, last as usize);
-    Answer::Done
+    Ok(())
 }
 
-pub fn has_subject(s: &[u8], subject: u32) -> Answer
+#[tactic(auto, unfolding(crate::specs::Image::has_subject))]
+pub fn has_subject(s: &[u8], subject: u32) -> Result<bool, Refusal>
     ensures { result ≡ answer (has_subject subject s.now) }
 {
-    let n = refusal(s, subject);
-    if n != 0 {
-        return Answer::Refused(n);
-    }
+    check(s, subject)?;
     let x = subject as usize;
     let i = x / 8;
-    Answer::Holds((s[i] >> (x % 8)) % 2 == 1)
+    Ok((s[i] >> (x % 8)) % 2 == 1)
 }

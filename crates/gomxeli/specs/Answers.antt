@@ -1,7 +1,10 @@
 -- The 64-bit answers of the exported functions: bits 0 to 7 the number, 8 to 15 what, 16 to 31 the first field, 32 to 63 the second.
 -- The number is 0 where the call is accepted, and else document 01's number of the refusal.
-use Rattle.std.specs.Prelude.{ℕ, ◌+◌, ◌*◌, ◌/◌, ◌%◌, Bool, cond, eqb, leb}
+use Rattle.std.specs.Prelude.{ℕ, ◌+◌, ◌*◌, ◌/◌, ◌%◌, Bool, cond, eqb, leb, Result, Ok, Err}
 use Rattle.state.specs.Seq.{to_nat}
+use Rattle.state.specs.Refusals as refusals
+use Rattle.state.specs.declared.Refusal.{Refusal}
+use Rattle.state.specs.declared.Refusal.TheVariants.{NotTaken}
 use Rattle.emcyphal_core.specs.Priorities as priorities
 use Rattle.emcyphal_core.specs.declared.MaybePriority as priority
 use Rattle.emcyphal_core.specs.declared.MaybePriority.TheVariants as priority-says
@@ -27,8 +30,6 @@ use Rattle.rx_req.specs.declared.Answer as request
 use Rattle.rx_req.specs.declared.Answer.TheVariants as request-says
 use Rattle.tx_queue.specs.declared.Answer as transmit
 use Rattle.tx_queue.specs.declared.Answer.TheVariants as transmit-says
-use Rattle.filter_image.specs.declared.Answer as image
-use Rattle.filter_image.specs.declared.Answer.TheVariants as image-says
 use Rattle.index_queue.specs.declared.Answer as key
 use Rattle.index_queue.specs.declared.Answer.TheVariants as key-says
 
@@ -50,6 +51,23 @@ second a = a / 4294967296
 
 abbrev pub accepted : ℕ → Bool
 accepted a = eqb (number a) 0
+
+-- a refusal: its number, and the key and the value of an insert that was not taken
+abbrev pub refused : Refusal → ℕ
+refused (NotTaken key value) = packed 14 0 key value
+refused r = packed (refusals.number r) 0 0 0
+
+-- a call's answer, or why it is refused
+abbrev pub answered : {A : Type 0} → (A → ℕ) → Result A Refusal → ℕ
+answered fields (Ok a) = fields a
+answered fields (Err r) = refused r
+
+-- no more than that the call is accepted
+abbrev pub done : Unit {0} → ℕ
+done u = packed 0 0 0 0
+
+abbrev pub flag : Bool → ℕ
+flag b = packed 0 (to_nat b) 0 0
 
 -- a list queue's answer
 abbrev pub list_answer : list.Answer → ℕ
@@ -104,12 +122,6 @@ transmit_answer (transmit-says.Accepted b) = packed 0 (to_nat b) 0 0
 transmit_answer (transmit-says.Picked e p) = packed 0 1 e p
 transmit_answer transmit-says.Nothing = packed 0 0 0 0
 transmit_answer (transmit-says.Settled e b) = packed 0 (to_nat b) e 0
-
--- the filter image's answer
-abbrev pub image_answer : image.Answer → ℕ
-image_answer (image-says.Refused n) = packed n 0 0 0
-image_answer image-says.Done = packed 0 0 0 0
-image_answer (image-says.Holds b) = packed 0 (to_nat b) 0 0
 
 -- what may be missing: what 1 and the value first, or what 0
 abbrev pub priority_answer : priority.MaybePriority → ℕ

@@ -2,6 +2,7 @@
 use Rattle.std.specs.Prelude.{ℕ, not, List, [], ◌∷◌, eqb, length}
 use Rattle.state.specs.Result as state
 use Rattle.state.specs.Result.{Result}
+use Rattle.state.specs.Outcome as outcome
 use Rattle.multi_class_queue.specs.Calls as mcq
 use Rattle.index_queue.specs.Calls as iq
 use Rattle.regular.specs.Steps as steps
@@ -15,7 +16,7 @@ use Rattle.tx_queue.specs.Steps.{reported}
 use Rattle.tx_queue.specs.Calls as txr
 use Rattle.tx_msg.specs.Steps as txm_steps
 use Rattle.tx_msg.specs.Calls as txm
-use Rattle.gomxeli.specs.Answers.{list_answer, key_answer, regular_answer, loop_back_answer, request_answer, transmit_answer}
+use Rattle.gomxeli.specs.Answers.{answered, list_answer, key_answer, regular_answer, loop_back_answer, request_answer, transmit_answer}
 
 pub record Outcome : Type 0 where
   pub answer : ℕ
@@ -28,6 +29,14 @@ asks number b r = record { answer = number (state.answer r); bytes = b }
 -- a call that writes: `after b r` are the bytes that the result r makes of b
 abbrev pub changes : {A M : Type 0} → (A → ℕ) → (List ℕ → Result A M → List ℕ) → List ℕ → Result A M → Outcome
 changes number after b r = record { answer = number (state.answer r); bytes = after b r }
+
+-- a call that reads: the answer's number, by the fields of its value, and the bytes b as they were
+abbrev pub reads : {A M : Type 0} → (A → ℕ) → List ℕ → outcome.Outcome A M → Outcome
+reads fields b o = record { answer = answered fields (outcome.answer o); bytes = b }
+
+-- a call that writes: `after b o` are the bytes that the outcome o makes of b
+abbrev pub writes : {A M : Type 0} → (A → ℕ) → (List ℕ → outcome.Outcome A M → List ℕ) → List ℕ → outcome.Outcome A M → Outcome
+writes fields after b o = record { answer = answered fields (outcome.answer o); bytes = after b o }
 
 pub data Call : Type 0 where
   McqFront McqBack McqIsEmpty McqIsFront McqIsBack McqRemove : ℕ → Call

@@ -1,12 +1,49 @@
 // Answers as one number each, laid out as specs/Answers.antt has it.
-ghost use Rattle.std.specs.Prelude.{◌≡◌};
+ghost use Rattle.std.specs.Prelude.{◌≡◌, ℕ};
 ghost use Rattle.state.specs.Seq.{to_nat};
-ghost use Rattle.gomxeli.specs.Answers.{packed, list_answer, key_answer, regular_answer, loop_back_answer, request_answer, transmit_answer, image_answer, priority_answer, subject_answer, service_answer, node_answer, transfer_answer, eot_answer};
+ghost use Rattle.gomxeli.specs.Answers.{packed, done, flag, answered, list_answer, key_answer, regular_answer, loop_back_answer, request_answer, transmit_answer, priority_answer, subject_answer, service_answer, node_answer, transfer_answer, eot_answer};
 
 use emcyphal_core::{
     MaybeNodeId, MaybePriority, MaybeServiceId, MaybeSubjectId, MaybeTransferId, PrioritySet,
 };
 use format::MaybeEot;
+use state::Refusal;
+
+/// What C gets of an answer: one number.
+pub trait Answer {
+    ghost packed: { Self → ℕ };
+
+    fn pack(self) -> u64
+        ensures { result ≡ packed self };
+}
+
+impl Answer for () {
+    ghost packed = { done };
+
+    fn pack(self) -> u64 {
+        pack(0, 0, 0, 0)
+    }
+}
+
+impl Answer for bool {
+    ghost packed = { flag };
+
+    fn pack(self) -> u64 {
+        holds(self)
+    }
+}
+
+impl<T: Answer> Answer for Result<T, Refusal> {
+    ghost packed = { answered T.packed };
+
+    fn pack(self) -> u64 {
+        match self {
+            Ok(answer) => answer.pack(),
+            Err(Refusal::NotTaken(key, value)) => pack(14, 0, key, value),
+            Err(refusal) => pack(u8::from(refusal), 0, 0, 0),
+        }
+    }
+}
 
 pub fn pack(number: u8, what: u8, first: u16, second: u32) -> u64
     ensures { result ≡ packed number what first second }
@@ -107,16 +144,6 @@ pub fn transmit_answer(a: tx_queue::Answer) -> u64
         tx_queue::Answer::Picked(e, p) => pack(0, 1, e as u16, p as u32),
         tx_queue::Answer::Nothing => pack(0, 0, 0, 0),
         tx_queue::Answer::Settled(e, b) => pack(0, b as u8, e as u16, 0),
-    }
-}
-
-pub fn image_answer(a: filter_image::Answer) -> u64
-    ensures { result ≡ image_answer a }
-{
-    match a {
-        filter_image::Answer::Refused(n) => pack(n, 0, 0, 0),
-        filter_image::Answer::Done => pack(0, 0, 0, 0),
-        filter_image::Answer::Holds(b) => holds(b),
     }
 }
 

@@ -1,4 +1,5 @@
 pub mod Ends
+pub mod Outcomes
 pub mod Queues
 pub mod Reception
 pub mod Transmission

@@ -15,6 +15,7 @@ use Rattle.refusals.specs.Stateless as stateless
 use Rattle.refusals.specs.Stateless.{ImageCall, ImgOpen, ImgAddSubject, ImgRemoveSubjectRange, ImgHasSubject}
 use Rattle.refusals.specs.Refusals.{Answered, refusals, image_refusals, Demand1}
 use Rattle.refusals.proofs.Ends.{asked, changed}
+use Rattle.refusals.proofs.Outcomes as outcomes
 use Rattle.refusals.proofs.Queues.{on-lists, front, back, is-empty, is_front_lem, is-back, remove, move-front, move-back, open-lists, on_keys, contains, get, get-mut, insert, remove_key, front-key, back-key, enqueue-front, enqueue-back, dequeue, open_keys}
 use Rattle.refusals.proofs.Reception.{on-regular, reg_register, reg_unregister, reg_poll, reg_start, reg_next, reg_open, on_loop_back, lb-register, lb-unregister, lb-start, lb-next, lb_open, on-requests, req_register, req_unregister, req_push, req_open}
 use Rattle.refusals.proofs.Transmission.{on-responses, txr_register, txr_unregister, txr_update, txr_pick, txr_settle, txr_open, on-messages, txm_register, txm_unregister, txm_update, txm_pick, txm_settle, txm_open}
@@ -75,10 +76,10 @@ on_state (TxrPick mask mtu) b = changed responses.laid (on-responses b (txr_pick
 on_state (TxrSettle frame r p n last) b = changed responses.laid (on-responses b (txr_settle frame r p n last))
 
 on-image : (c : ImageCall) (b : List ℕ) → Answered (image_refusals c) b (stateless.image c b)
-on-image ImgOpen b = changed (λ f x. image_of f) (image.opens b)
-on-image (ImgAddSubject x) b = changed (λ f x. image_of f) (image.add x b)
-on-image (ImgRemoveSubjectRange x y) b = changed (λ f x. image_of f) (image.remove x y b)
-on-image (ImgHasSubject x) b = asked (image.has x b)
+on-image ImgOpen b = outcomes.changed (λ f x. image_of f) (image.opens b)
+on-image (ImgAddSubject x) b = outcomes.changed (λ f x. image_of f) (image.add x b)
+on-image (ImgRemoveSubjectRange x y) b = outcomes.changed (λ f x. image_of f) (image.remove x y b)
+on-image (ImgHasSubject x) b = outcomes.asked (image.has x b)
 
 pub demand-1 : Demand1
 demand-1 = record { on_state = on_state; on-image = on-image; leaves = leaves }

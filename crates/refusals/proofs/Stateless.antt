@@ -7,11 +7,9 @@ use mathlib.Core.List.{List}
 use lib.Dec.{ltb, eqb, leb}
 use lib.ListN.{length}
 use Rattle.state.specs.Lengths.{image_length}
-use Rattle.state.specs.Result.{Result, refuse}
+use Rattle.state.specs.Outcome.{Outcome}
 use Rattle.state.proofs.Tests.{by_cond}
 use Rattle.filter_image.specs.Image.{Subjects, on_image, opening, add_subject, remove_subject_range, has_subject}
-use Rattle.filter_image.specs.declared.Answer as image
-use Rattle.filter_image.specs.declared.Answer.TheVariants as image-says
 use Rattle.emcyphal_core.specs.Ids.{maybe_node, maybe_subject, maybe_service, maybe_transfer}
 use Rattle.emcyphal_core.specs.Priorities.{maybe_priority, before}
 use Rattle.emcyphal_core.specs.Sets.{first_of, last_of, next_of}
@@ -30,35 +28,33 @@ use Rattle.emcyphal_core.specs.declared.MaybeTransferId.TheVariants as transfer-
 use Rattle.format.specs.Tail.{eot_frame}
 use Rattle.format.specs.declared.MaybeEot as eot
 use Rattle.format.specs.declared.MaybeEot.TheVariants as eot-says
-use Rattle.gomxeli.specs.Answers.{number, image_answer, priority_answer, subject_answer, service_answer, node_answer, transfer_answer, eot_answer, next_answer, with_priority}
+use Rattle.gomxeli.specs.Answers.{number, done, flag, priority_answer, subject_answer, service_answer, node_answer, transfer_answer, eot_answer, next_answer, with_priority}
 use Rattle.gomxeli.proofs.Fields.{refusal_of}
 use Rattle.refusals.specs.Stateless.{ImgOpen, ImgAddSubject, ImgRemoveSubjectRange, ImgHasSubject, LeafCall, leaf, SubjectIdNew, SubjectIdFromU16Truncating, ServiceIdNew, ServiceIdFromU16Truncating, NodeIdNew, NodeIdFromU8Truncating, TransferIdNew, TransferIdFromU8Truncating, TransferIdNext, PriorityTryFromU8, PriorityFromU8Truncating, PriorityNext, PriorityPrev, PrioritySetNewEq, PrioritySetNewGe, PrioritySetNewLe, PrioritySetNewGt, PrioritySetNewLt, PrioritySetFirst, PrioritySetLast, PrioritySetIsEmpty, PrioritySetComplement, PrioritySetNot, PrioritySetIterNext, TailByteSot, TailByteEot, TailByteToggle, TailByteTransferId, PrioritySetContains, PrioritySetInsert, PrioritySetRemove, PrioritySetBitand, PrioritySetBitor, TailByteNew, IsEotFrame}
 use Rattle.refusals.specs.Refusals.{image_refusals}
-use Rattle.refusals.proofs.Ends.{Ends, refuses, answers, either, zero_number, is_refusal, numbered}
+use Rattle.refusals.proofs.Ends.{zero_number, is_refusal}
+use Rattle.refusals.proofs.Outcomes.{Ends, answers, either, alone}
 
 -- ---- the filter image
 
-no_image : {l : List ℕ} (n : ℕ) → is_refusal l n ≡ true → Ends {M = Subjects} l image_answer (refuse (image-says.Refused n))
-no_image {l = l} n h = refuses (numbered l n h)
+on-image : {A : Type 0} {l : List ℕ} {fields : A → ℕ} (n : ℕ) {o : Outcome A Subjects} → is_refusal l 4 ≡ true → Ends l fields o → Ends l fields (on_image n o)
+on-image n h p = either (eqb n image_length) p (alone 4 refl h)
 
-on-image : {l : List ℕ} (n : ℕ) {r : Result image.Answer Subjects} → is_refusal l 4 ≡ true → Ends l image_answer r → Ends l image_answer (on_image n r)
-on-image n h p = either (eqb n image_length) p (no_image 4 h)
-
-pub opens : (b : List ℕ) → Ends (image_refusals ImgOpen) image_answer (opening b)
+pub opens : (b : List ℕ) → Ends (image_refusals ImgOpen) done (opening b)
 unfolding opening
 opens b = on-image (length b) refl (answers (zero_number _ _ _))
 
-pub add : (x : ℕ) (b : List ℕ) → Ends (image_refusals (ImgAddSubject x)) image_answer (add_subject x b)
+pub add : (x : ℕ) (b : List ℕ) → Ends (image_refusals (ImgAddSubject x)) done (add_subject x b)
 unfolding add_subject
-add x b = either (ltb 8191 x) (no_image 3 refl) (on-image (length b) refl (answers (zero_number _ _ _)))
+add x b = either (ltb 8191 x) (alone 3 refl refl) (on-image (length b) refl (answers (zero_number _ _ _)))
 
-pub remove : (x y : ℕ) (b : List ℕ) → Ends (image_refusals (ImgRemoveSubjectRange x y)) image_answer (remove_subject_range x y b)
+pub remove : (x y : ℕ) (b : List ℕ) → Ends (image_refusals (ImgRemoveSubjectRange x y)) done (remove_subject_range x y b)
 unfolding remove_subject_range
-remove x y b = either (ltb 8191 x || (ltb 8191 y || ltb y x)) (no_image 3 refl) (on-image (length b) refl (answers (zero_number _ _ _)))
+remove x y b = either (ltb 8191 x || (ltb 8191 y || ltb y x)) (alone 3 refl refl) (on-image (length b) refl (answers (zero_number _ _ _)))
 
-pub has : (x : ℕ) (b : List ℕ) → Ends (image_refusals (ImgHasSubject x)) image_answer (has_subject x b)
+pub has : (x : ℕ) (b : List ℕ) → Ends (image_refusals (ImgHasSubject x)) flag (has_subject x b)
 unfolding has_subject
-has x b = either (ltb 8191 x) (no_image 3 refl) (on-image (length b) refl (answers (zero_number _ _ _)))
+has x b = either (ltb 8191 x) (alone 3 refl refl) (on-image (length b) refl (answers (zero_number _ _ _)))
 
 -- ---- the leaves
 

@@ -6,8 +6,8 @@ use Rattle.emcyphal_core.specs.Ids.{nodes, subjects, services, transfers, maybe_
 use Rattle.emcyphal_core.specs.Priorities.{maybe_priority, before}
 use Rattle.emcyphal_core.specs.Sets.{has, set_of, without, is_empty, first_of, last_of, next_of}
 use Rattle.format.specs.Tail.{tail_byte, eot_frame}
-use Rattle.gomxeli.specs.Answers.{packed, image_answer, priority_answer, subject_answer, service_answer, node_answer, transfer_answer, eot_answer, next_answer, with_priority}
-use Rattle.gomxeli.specs.Calls.{Outcome, asks, changes}
+use Rattle.gomxeli.specs.Answers.{packed, done, flag, priority_answer, subject_answer, service_answer, node_answer, transfer_answer, eot_answer, next_answer, with_priority}
+use Rattle.gomxeli.specs.Calls.{Outcome, reads, writes}
 
 pub data ImageCall : Type 0 where
   ImgOpen : ImageCall
@@ -15,10 +15,10 @@ pub data ImageCall : Type 0 where
   ImgRemoveSubjectRange : ℕ → ℕ → ImageCall
 
 abbrev pub image : ImageCall → List ℕ → Outcome
-image ImgOpen b = changes image_answer bytes b (opening b)
-image (ImgAddSubject subject) b = changes image_answer bytes b (add_subject subject b)
-image (ImgRemoveSubjectRange first last) b = changes image_answer bytes b (remove_subject_range first last b)
-image (ImgHasSubject subject) b = asks image_answer b (has_subject subject b)
+image ImgOpen b = writes done bytes b (opening b)
+image (ImgAddSubject subject) b = writes done bytes b (add_subject subject b)
+image (ImgRemoveSubjectRange first last) b = writes done bytes b (remove_subject_range first last b)
+image (ImgHasSubject subject) b = reads flag b (has_subject subject b)
 
 pub data LeafCall : Type 0 where
   SubjectIdNew SubjectIdFromU16Truncating ServiceIdNew ServiceIdFromU16Truncating : ℕ → LeafCall

@@ -23,8 +23,7 @@ use Rattle.regular_valid.proofs.Inv.{Inv}
 use Rattle.regular_valid.proofs.Demand as demand
 use Rattle.regular_valid.proofs.Mean.{means, fresh-valid}
 use Rattle.filter_image.specs.Image as image
-use Rattle.filter_image.proofs.Laws.{length-image, holds-none}
-use Rattle.filter_image.proofs.Ends.{open_done}
+use Rattle.filter_image.proofs.Laws.{length-image, holds-none, opened-none}
 use Rattle.gomxeli.specs.Answers.{regular_answer, accepted}
 use Rattle.gomxeli.proofs.Fields.{accepted_of}
 use Rattle.regular_runs.specs.Runs.{Now, begin}
@@ -60,7 +59,7 @@ module _ (n : ℕ) (b i : List ℕ) (h : n ≤ 65535) (l : length b ≡ regular_
 
   pub good-begin : length i ≡ image_length → Good (begin n b i)
   good-begin k =
-      let e : image.image_of image.none ≡ (begin n b i).image = (open_done i (image.image_of image.none) k refl).1 in
+      let e : image.image_of image.none ≡ (begin n b i).image = opened-none i k in
       let j = demand.same_filter (fresh n) (λ x. false) (lists [] []) (demand.begin n h) (image.holds (begin n b i).image) (λ x. sym (holds-none (begin n b i).image (sym e) x)) in
       record {
         whole = rw opened (means.meaning.laid_whole (fresh n) Zeros (zero-bytes (length b)) (fresh-valid n h) long-zeros);

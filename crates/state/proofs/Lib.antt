@@ -5,3 +5,4 @@ pub mod Disjoint
 pub mod Calls
 pub mod Filled
 pub mod Bytes
+pub mod Outcomes

@@ -1,3 +1,5 @@
 pub mod Seq
 pub mod Lengths
 pub mod Result
+pub mod Refusals
+pub mod Outcome

@@ -3,7 +3,7 @@ use Prim.Native.Nat.{ℕ, zero, suc, ◌+◌, ◌-◌, ◌*◌, ◌<◌, ◌≤�
 use mathlib.Core.Path.{◌≡◌, refl, sym, ap, ◌∙◌}
 use mathlib.Core.Bool.{Bool, true, false, cond}
 use mathlib.Core.List.{List, [], ◌∷◌, ◌++◌, append-nil, append_assoc}
-use mathlib.Core.Option.{none, some}
+use Rattle.std.specs.Prelude.{None, Some}
 use native.Mathlib.Nat.{zero-add}
 use native.Mathlib.Omega.{arith}
 use lib.Dec.{ltb}
@@ -33,7 +33,7 @@ spaced-append (w ∷ a) b = rw (spaced-append a b, append_assoc w (spaced a) (sp
 abbrev Short : Result Answer Registry → Type 0
 Short r = length (spaced (shown (answer r)).words) ≤ 4
 
-pushed_short : (w : ℕ) (m : Registry) (t : Bool) → (t ≡ true → w < 128) → Short (push_next (cond t (some w) none) m)
+pushed_short : (w : ℕ) (m : Registry) (t : Bool) → (t ≡ true → w < 128) → Short (push_next (cond t (Some w) None) m)
 unfolding spaced
 pushed_short w m true h =
     let z : w < 128 = h refl in

@@ -3,14 +3,14 @@ use Prim.Native.Nat.{ℕ, zero, suc, ◌+◌, ◌<◌, ◌≤◌}
 use mathlib.Core.Path.{◌≡◌, refl, sym, ap, ◌∙◌}
 use mathlib.Core.Bool.{true}
 use mathlib.Core.List.{List, [], ◌∷◌, ◌++◌, map, append_assoc}
-use mathlib.Core.Option.{Option, some}
+use Rattle.std.specs.Prelude.{Option, Some, is_some}
 use native.Mathlib.Omega.{arith}
 use lib.ListN.{length}
 use borrow.Author.Tests.{le-ltb, lt-ltb, eq-eqb, ne_eqb}
 use Rattle.state.specs.Result.{Result, done, answer, left, Bytes}
 use Rattle.state.proofs.Calls.{is_whole}
 use Rattle.entry_tree.specs.Pairs.{Pair, count, is_entry, find, place_of}
-use Rattle.entry_tree.specs.Walks.{first_on, is_some, next_on}
+use Rattle.entry_tree.specs.Walks.{first_on, next_on}
 use Rattle.regular.specs.Registry.{Registry}
 use Rattle.regular.specs.Bytes.{whole_b, read, laid}
 use Rattle.regular.specs.Steps.{hub_push_start, hub_push_next, HubPushStart, HubPushNext, with_walk, push_at}
@@ -41,7 +41,7 @@ none-on x h (ocons {p = p} {l = l} i low o) = rw (ne_eqb x p.subject (omega arit
 
 -- ---- one step
 
-next_of : (m : Registry) (e : ℕ) → m.walk ≡ some e → hub_push_next m ≡ push_at e (place_of e m.active) m
+next_of : (m : Registry) (e : ℕ) → m.walk ≡ Some e → hub_push_next m ≡ push_at e (place_of e m.active) m
 unfolding hub_push_next
 next_of m e q = rw q
 
@@ -58,7 +58,7 @@ module _ (c : List ℕ) (y : Bytes c) (h : whole_b c ≡ true) where
   facts : Facts (read c)
   facts = (valid-whole (read c) (means.meaning.whole_valid c y h)).facts
 
-  module _ (before l : List Pair) (p : Pair) (a : (read c).active ≡ before ++ (p ∷ l)) (w : (read c).walk ≡ some p.entry) where
+  module _ (before l : List Pair) (p : Pair) (a : (read c).active ≡ before ++ (p ∷ l)) (w : (read c).walk ≡ Some p.entry) where
     once : count (is_entry p.entry) before ≡ 0
     once =
         let g : count (is_entry p.entry) (read c).active ≡ count (is_entry p.entry) before + count (is_entry p.entry) (p ∷ l) = rw a (count-append (is_entry p.entry) before (p ∷ l)) in
@@ -86,7 +86,7 @@ module _ (c : List ℕ) (y : Bytes c) (h : whole_b c ≡ true) where
 -- ---- the whole walk
 
 module _ (x : ℕ) {M : ℕ → ℕ} where
-  from-pair : (n : ℕ) (c : List ℕ) → Bytes c → whole_b c ≡ true → (before l : List Pair) (p : Pair) → (read c).active ≡ before ++ (p ∷ l) → (read c).walk ≡ some p.entry → p.subject ≡ x
+  from-pair : (n : ℕ) (c : List ℕ) → Bytes c → whole_b c ≡ true → (before l : List Pair) (p : Pair) → (read c).active ≡ before ++ (p ∷ l) → (read c).walk ≡ Some p.entry → p.subject ≡ x
       → Ordered M (suc x) l → length (p ∷ l) ≤ n → named n true c ≡ map decimal (p.entry ∷ entries_on x l)
   from-pair zero c y h before l p a w s o k = absurd (omega arith)
   from-pair (suc n) c y h before [] p a w s o k = names c y h before [] p a w n ∙ ap (λ (k : List (List ℕ)). decimal p.entry ∷ k) (named_end n (then c y h))

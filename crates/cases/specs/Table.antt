@@ -1,7 +1,6 @@
 -- Document 01's starred cases, in one table. Each row runs calls, by the definitions that their contracts cite, on zero bytes
 -- that its first call opens.
-use Rattle.std.specs.Prelude.{ℕ, ◌≡◌, Bool, true, false, List, [], ◌∷◌, map, replicate}
-use Rattle.std.proofs.Math.Option.{Option, some}
+use Rattle.std.specs.Prelude.{ℕ, ◌≡◌, Bool, true, false, List, [], ◌∷◌, map, replicate, Option, Some}
 use Rattle.state.specs.Seq.{to_nat}
 use Rattle.state.specs.Lengths.{keys_length, regular_length, loop_back_length, messages_length, responses_length}
 use Rattle.entry_tree.specs.Walks.{first_on}
@@ -93,7 +92,7 @@ shared_subject = record {
   length = regular_length;
   calls = RegOpen 1 ∷ RegRegister 0 100 ∷ RegRegister 1 100 ∷ RegPollPop ∷ RegPollPop ∷ RegUnregister 0 ∷ RegPollPop ∷ [];
   answers = plain ∷ wake true ∷ wake false ∷ adds 100 ∷ plain ∷ wake false ∷ plain ∷ [];
-  told = Head 100 (some 1) ∷ [];
+  told = Head 100 (Some 1) ∷ [];
 }
 
 -- 100, 200, 300 active from 3 slots; remove 200, then 100: one update, 0 to 299; counter 1

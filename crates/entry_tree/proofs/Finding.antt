@@ -2,7 +2,7 @@
 use Prim.Native.Nat.{ℕ, zero, suc, ◌+◌, ◌<◌, ◌≤◌}
 use mathlib.Core.Path.{◌≡◌, refl, sym, ap, ◌∙◌}
 use mathlib.Core.List.{List, [], ◌∷◌, ◌++◌}
-use mathlib.Core.Option as opt
+use Rattle.std.specs.Prelude.{Some, None}
 use mathlib.Core.Bool.{Bool, true, false, cond}
 use native.Mathlib.Omega.{arith}
 use native.Mathlib.Nat.{not-suc-le-zero}
@@ -65,18 +65,18 @@ module _ (t : List ℕ) where
   drop_end i h = drop_of_length-le (tree.read t) {i = suc i} (omega (arith, read_length t))
 
   -- the next entry
-  pub next-none : (i : ℕ) → size t ≤ suc i → opt.none ≡ next_on (subject_at t i) (drop (suc i) (tree.read t))
+  pub next-none : (i : ℕ) → size t ≤ suc i → None ≡ next_on (subject_at t i) (drop (suc i) (tree.read t))
   next-none i h = sym (ap (next_on (subject_at t i)) (drop_end i h))
 
   module _ (i j : ℕ) (q : j ≡ suc i) (h : j < size t) (x y : ℕ) (a : x ≡ subject_at t i) (b : y ≡ subject_at t j) where
-    next-is : next_on (subject_at t i) (drop (suc i) (tree.read t)) ≡ cond (ltb x y) opt.none (opt.some (entry_at t j))
+    next-is : next_on (subject_at t i) (drop (suc i) (tree.read t)) ≡ cond (ltb x y) None (Some (entry_at t j))
     next-is = ap (next_on (subject_at t i)) (drop-next i j q h) ∙ rw (a, b) refl
 
-    pub next_head : x < y → opt.none ≡ next_on (subject_at t i) (drop (suc i) (tree.read t))
+    pub next_head : x < y → None ≡ next_on (subject_at t i) (drop (suc i) (tree.read t))
     next_head l = sym (next-is ∙ rw (lt-ltb x y l) refl)
 
-    pub next-same : y ≤ x → (e : ℕ) → e ≡ entry_at t j → opt.some e ≡ next_on (subject_at t i) (drop (suc i) (tree.read t))
-    next-same l e r = ap opt.some r ∙ sym (next-is ∙ rw (le-ltb x y l) refl)
+    pub next-same : y ≤ x → (e : ℕ) → e ≡ entry_at t j → Some e ≡ next_on (subject_at t i) (drop (suc i) (tree.read t))
+    next-same l e r = ap Some r ∙ sym (next-is ∙ rw (le-ltb x y l) refl)
 
 -- ---- the place of an entry
 

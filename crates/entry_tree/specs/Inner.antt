@@ -1,11 +1,8 @@
 -- Inner: a tree's length, the place of a pair, a place's three bytes, what the code's stores do to them, what its loops keep, and a walk's byte.
-use Rattle.std.specs.Prelude.{ℕ, zero, suc, ◌+◌, ◌-◌, ◌*◌, ◌/◌, ◌%◌, ◌<◌, ◌≤◌, ◌≡◌, List, [], ◌∷◌, Bool, cond, eqb, length, get_or, set}
-use Rattle.std.proofs.Math.Option.{Option, none, some}
+use Rattle.std.specs.Prelude.{ℕ, zero, suc, ◌+◌, ◌-◌, ◌*◌, ◌/◌, ◌%◌, ◌<◌, ◌≤◌, ◌≡◌, List, [], ◌∷◌, Bool, cond, eqb, length, get_or, set, Option}
 use Rattle.entry_tree.specs.Pairs.{Pair}
 use Rattle.entry_tree.specs.Places.{size, subject_at}
 use Rattle.entry_tree.specs.Walks.{walk_over}
-use Rattle.entry_tree.specs.declared.walk.Walk.{Walk}
-use Rattle.entry_tree.specs.declared.walk.Walk.TheVariants.{At, Ended}
 
 abbrev pub tree_length : ℕ
 tree_length = 385
@@ -57,10 +54,6 @@ pub record ClosedUp (t u : List ℕ) (a e : ℕ) : Type 0 where
   pub after : (j : ℕ) → e ≤ j → get_or u j 0 ≡ get_or t j 0
 
 -- ---- the byte i of s holds a walk
-
-abbrev pub walk_at : Walk → Option ℕ
-walk_at (At e) = some e
-walk_at Ended = none
 
 abbrev pub with_walk : ℕ → List ℕ → Option ℕ → List ℕ
 with_walk i s w = set s i (walk_over w (get_or s i 0))

@@ -1,7 +1,6 @@
 -- The test of a tree's pairs as the code goes: a mark for each entry, at 2 and its number; a pair that is met has a mark from low to high,
 -- and gets the mark `met`. A mark of 1 asks for a gap before the pair. No contract of a public call cites this.
-use Rattle.std.specs.Prelude.{ℕ, suc, ◌+◌, ◌≡◌, List, [], ◌∷◌, Bool, true, not, ◌&&◌, ◌||◌, eqb, leb, ltb, get_or, set}
-use Rattle.std.proofs.Math.Option.{Option, none, some}
+use Rattle.std.specs.Prelude.{ℕ, suc, ◌+◌, ◌≡◌, List, [], ◌∷◌, Bool, true, not, ◌&&◌, ◌||◌, eqb, leb, ltb, get_or, set, Option, None, Some}
 use Rattle.state.specs.Seq.{all_b}
 use Rattle.entry_tree.specs.Pairs.{Pair, has_entry, in_range, once_b}
 
@@ -53,5 +52,5 @@ pub record Fit (most same : ℕ) (seen : List ℕ) (l : List Pair) (r : Bool) : 
 
 -- a walk points at none, or at an entry met with the mark 3
 abbrev pub pointed_b : List ℕ → Option ℕ → Bool
-pointed_b seen none = true
-pointed_b seen (some e) = eqb (mark_of seen e) 3
+pointed_b seen None = true
+pointed_b seen (Some e) = eqb (mark_of seen e) 3

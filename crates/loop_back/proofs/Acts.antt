@@ -2,7 +2,7 @@
 use Prim.Native.Nat.{ℕ, ◌<◌, ◌≤◌}
 use mathlib.Core.Path.{◌≡◌, refl, sym, ap, ◌∙◌}
 use mathlib.Core.List.{List}
-use mathlib.Core.Option.{Option, none}
+use Rattle.std.specs.Prelude.{Option, None}
 use mathlib.Core.Bool.{Bool, true, false, cond}
 use native.Mathlib.Omega.{arith}
 use lib.Dec.{eqb}
@@ -38,7 +38,7 @@ opened = over (replicate 389 0) (length-replicate {A = ℕ} 389 0) (zero-bytes 3
         let j = split b l in
         laid_from fresh b (set-byte b (tree_part b) (get_or b 385 0) (drop 386 b) j 255)
         (empty_tree (tree_part b) j.long-t (bytes-part 0 385 b y) (size_is b ∙ z 0 (omega arith)))
-        (ap (walk_over none) (sym (z 385 (omega arith))))
+        (ap (walk_over None) (sym (z 385 (omega arith))))
         refl
 
 module _ (b : List ℕ) (h : whole_b b ≡ true) where

@@ -3,7 +3,7 @@ use Prim.Native.Nat.{ℕ, ◌<◌, ◌≤◌}
 use mathlib.Core.Path.{◌≡◌, refl, sym, ap, ◌∙◌}
 use mathlib.Core.Logic.{◌≢◌}
 use mathlib.Core.List.{List}
-use mathlib.Core.Option.{Option, none, some}
+use Rattle.std.specs.Prelude.{Option, None, Some}
 use mathlib.Core.Bool.{Bool, true, false, ◌&&◌}
 use native.Mathlib.Omega.{arith}
 use lib.Dec.{eqb, leb}
@@ -30,15 +30,15 @@ pub record Facts (m : Registry) : Type 0 where
   pub range : in_range 8191 m.entries ≡ true
   pub once : Once m.entries
   pub order : in_order 0 m.entries ≡ true
-  pub walks : (e : ℕ) → m.walk ≡ some e → 0 < count (is_entry e) m.entries
+  pub walks : (e : ℕ) → m.walk ≡ Some e → 0 < count (is_entry e) m.entries
 
-points : (l : List Pair) (w : Option ℕ) → walk_b l w ≡ true → (e : ℕ) → w ≡ some e → 0 < count (is_entry e) l
-points l none h e q = absurd (none-some e q)
-points l (some x) h e q = any-true (is_entry e) l (ap (λ (z : ℕ). has_entry z l) (sym (some_is x e q)) ∙ h)
+points : (l : List Pair) (w : Option ℕ) → walk_b l w ≡ true → (e : ℕ) → w ≡ Some e → 0 < count (is_entry e) l
+points l None h e q = absurd (none-some e q)
+points l (Some x) h e q = any-true (is_entry e) l (ap (λ (z : ℕ). has_entry z l) (sym (some_is x e q)) ∙ h)
 
-of_points : (l : List Pair) (w : Option ℕ) → ((e : ℕ) → w ≡ some e → 0 < count (is_entry e) l) → walk_b l w ≡ true
-of_points l none f = refl
-of_points l (some x) f = true-any (is_entry x) l (f x refl)
+of_points : (l : List Pair) (w : Option ℕ) → ((e : ℕ) → w ≡ Some e → 0 < count (is_entry e) l) → walk_b l w ≡ true
+of_points l None f = refl
+of_points l (Some x) f = true-any (is_entry x) l (f x refl)
 
 pub facts_of : (m : Registry) → registry.whole_b m ≡ true → Facts m
 unfolding registry.whole_b
@@ -105,8 +105,8 @@ module _ (b : List ℕ) (l : length b ≡ 389) where
       no_pairs q = tested ∙ ap (λ (t : Bool). t && walk_b m.entries m.walk) (sym f.test ∙ q)
 
       same_walk : r ≡ true → (w : Option ℕ) → pointed_b seen w ≡ walk_b m.entries w
-      same_walk q none = refl
-      same_walk q (some e) = f.marks q e
+      same_walk q None = refl
+      same_walk q (Some e) = f.marks q e
 
       pub whole-last : r ≡ true → pointed_b seen (walk_of (get_or b 385 0)) ≡ whole_b b
       whole-last q = same_walk q m.walk ∙ sym (tested ∙ ap (λ (t : Bool). t && walk_b m.entries m.walk) (sym f.test ∙ q))

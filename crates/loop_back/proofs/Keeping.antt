@@ -1,7 +1,7 @@
 -- Each call keeps a whole registry whole.
 use Prim.Native.Nat.{ℕ, ◌<◌, ◌≤◌}
 use mathlib.Core.Path.{◌≡◌, refl}
-use mathlib.Core.Option.{Option, none, some}
+use Rattle.std.specs.Prelude.{Option, None, Some, is_some}
 use mathlib.Core.Bool.{true, false, cond}
 use native.Mathlib.Omega.{arith}
 use lib.Dec.{ltb}
@@ -9,7 +9,7 @@ use borrow.Author.Tests.{ltb-false}
 use Rattle.state.specs.Result.{Result, refuse, done, left}
 use Rattle.state.proofs.Tests.{by_cond}
 use Rattle.entry_tree.specs.Pairs.{pair, count, is_entry, has_entry, place_of}
-use Rattle.entry_tree.specs.Walks.{is_some, first_on}
+use Rattle.entry_tree.specs.Walks.{first_on}
 use Rattle.entry_tree.proofs.Changes.{inserted-count, inserted-range, inserted-order, without-range, without-order}
 use Rattle.entry_tree.proofs.Once.{inserted-once, without-once}
 use Rattle.entry_tree.proofs.Walking.{none-some, first_entry, first-in, find-rest, past_in}
@@ -40,12 +40,12 @@ module _ (m : Registry) (f : Facts m) where
     walks = past_in e (goes_on (place_of e m.entries)) m.entries (f.once e) (λ y q. first_entry y (place_of e m.entries).rest q) m.walk f.walks;
   }
 
-  walk-facts : (w : Option ℕ) → ((e : ℕ) → w ≡ some e → 0 < count (is_entry e) m.entries) → Facts (with_walk w m)
+  walk-facts : (w : Option ℕ) → ((e : ℕ) → w ≡ Some e → 0 < count (is_entry e) m.entries) → Facts (with_walk w m)
   walk-facts w g = record { range = f.range; once = f.once; order = f.order; walks = g }
 
   next-facts : (w : Option ℕ) → Facts (left m (push_next w m))
-  next-facts none = f
-  next-facts (some e) = walk-facts (goes_on (place_of e m.entries)) (λ w q. omega (arith, first_entry w (place_of e m.entries).rest q, find-rest w e 0 m.entries))
+  next-facts None = f
+  next-facts (Some e) = walk-facts (goes_on (place_of e m.entries)) (λ w q. omega (arith, first_entry w (place_of e m.entries).rest q, find-rest w e 0 m.entries))
 
   abbrev Left : Result Answer Registry → Type 0
   Left o = Facts (left m o)

@@ -2,7 +2,7 @@
 use Prim.Native.Nat.{ℕ, zero, suc, ◌+◌, ◌<◌}
 use mathlib.Core.Path.{◌≡◌, refl, sym, ap, ◌∙◌, subst}
 use mathlib.Core.List.{List, ◌∷◌}
-use mathlib.Core.Option.{some}
+use Rattle.std.specs.Prelude.{Some}
 use mathlib.Core.Bool.{true}
 use native.Mathlib.Omega.{arith}
 use lib.Dec.{eqb}
@@ -55,7 +55,7 @@ module _ (m : Registry) (b : List ℕ) (y : Bytes b) (f : Valid m) (l : length b
   unfolding T v
   j = laid-joined m b l (at_most m w)
 
-  walks : (e : ℕ) → m.walk ≡ some e → e < 128
+  walks : (e : ℕ) → m.walk ≡ Some e → e < 128
   walks e q = omega (arith, range_inside 8191 m.entries w.range e (w.walks e q))
 
   pub read_laid : read (laid m b) ≡ m

@@ -1,6 +1,5 @@
 -- The loop-back registry in plain words, and when it is whole.
-use Rattle.std.specs.Prelude.{ℕ, List, [], Bool, ◌&&◌}
-use Rattle.std.proofs.Math.Option.{Option, none}
+use Rattle.std.specs.Prelude.{ℕ, List, [], Bool, ◌&&◌, Option, None}
 use Rattle.state.specs.Seq.{all_b}
 use Rattle.entry_tree.specs.Pairs.{Pair, in_order, in_range, once_b}
 use Rattle.entry_tree.specs.Walks.{walk_b}
@@ -12,7 +11,7 @@ pub record Registry : Type 0 where
   pub walk : Option ℕ
 
 abbrev pub fresh : Registry
-fresh = record { entries = []; walk = none }
+fresh = record { entries = []; walk = None }
 
 -- document 01's *whole*: entries 0 to 127, each once, on subjects 0 to 8,191, ordered by subject; a walk points at a registered one
 unfoldable pub whole_b : Registry → Bool

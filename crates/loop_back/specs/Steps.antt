@@ -1,9 +1,8 @@
 -- The calls of the loop-back registry on its plain meaning, as document 01 has them.
-use Rattle.std.specs.Prelude.{ℕ, cond, ltb}
-use Rattle.std.proofs.Math.Option.{Option, none, some}
+use Rattle.std.specs.Prelude.{ℕ, cond, ltb, Option, None, Some, is_some}
 use Rattle.state.specs.Result.{Result, refuse, done}
 use Rattle.entry_tree.specs.Pairs.{pair, Place, has_entry, without, inserted, place_of}
-use Rattle.entry_tree.specs.Walks.{is_some, first, first_on, moved_past}
+use Rattle.entry_tree.specs.Walks.{first, first_on, moved_past}
 use Rattle.loop_back.specs.Registry.{Registry}
 use Rattle.loop_back.specs.declared.Answer.{Answer}
 use Rattle.loop_back.specs.declared.Answer.TheVariants.{Refused, Done, Started, Pushed, NotPushed}
@@ -42,8 +41,8 @@ unfoldable pub hub_push_start : ℕ → Registry → Result Answer Registry
 hub_push_start x m = cond (ltb 8191 x) (refuse (Refused 3)) (done (Started (is_some (first_on x m.entries))) (with_walk (first_on x m.entries) m))
 
 abbrev pub push_next : Option ℕ → Registry → Result Answer Registry
-push_next none m = done NotPushed m
-push_next (some e) m = done (Pushed e (is_some (goes_on (place_of e m.entries)))) (with_walk (goes_on (place_of e m.entries)) m)
+push_next None m = done NotPushed m
+push_next (Some e) m = done (Pushed e (is_some (goes_on (place_of e m.entries)))) (with_walk (goes_on (place_of e m.entries)) m)
 
 unfoldable pub hub_push_next : Registry → Result Answer Registry
 hub_push_next m = push_next m.walk m

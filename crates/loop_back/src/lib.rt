@@ -6,13 +6,13 @@ ghost use Rattle.std.specs.Prelude.{◌≡◌, true, false, ◌<◌, ◌≤◌, 
 ghost use Rattle.entry_tree.specs.Pairs.{has_entry, is_entry, place_of};
 ghost use Rattle.entry_tree.specs.Places.{size};
 ghost use Rattle.entry_tree.specs.Places as tree;
-ghost use Rattle.entry_tree.specs.Inner.{position, walk_at};
+ghost use Rattle.entry_tree.specs.Inner.{position};
 ghost use Rattle.loop_back.specs.Registry.{fresh};
 ghost use Rattle.loop_back.specs.Steps.{goes_on, joins, leaves};
 ghost use Rattle.loop_back.specs.Bytes.{tree_part, whole_b, read, laid};
 ghost use Rattle.loop_back.specs.Means.{LoopBackMeans};
 
-use entry_tree::walk::{Walk, next, walk_past};
+use entry_tree::walk::{next, walk_past};
 use entry_tree::whole::{pairs_fit, pointed};
 use entry_tree::{insert, remove};
 use state::fill;
@@ -65,9 +65,9 @@ pub fn join(s: &mut [u8], entry: u8, subject: u16)
 }
 
 // Where a walk goes on from the entry at the place i, and where its removal moves it.
-pub fn next_push(t: &[u8], i: usize, entry: u8) -> Walk
+pub fn next_push(t: &[u8], i: usize, entry: u8) -> Option<u8>
     requires { (length t.now ≡ 385) × ((size t.now ≤ 128) × ((i ≡ position (is_entry «entry») (tree.read t.now)) × (i < size t.now))) }
-    ensures { walk_at result ≡ goes_on (place_of «entry» (tree.read t.now)) }
+    ensures { result ≡ goes_on (place_of «entry» (tree.read t.now)) }
 {
     next(t, i)
 }

@@ -3,7 +3,7 @@ use Prim.Native.Nat.{ℕ, zero, suc, ◌+◌}
 use mathlib.Core.Path.{◌≡◌, refl}
 use mathlib.Core.Bool.{true, cond, not, ◌||◌}
 use mathlib.Core.List.{List, ◌∷◌}
-use mathlib.Core.Option.{Option, none, some}
+use Rattle.std.specs.Prelude.{Option, None, Some}
 use lib.Dec.{ltb, eqb}
 use lib.ListN.{length}
 use Rattle.state.specs.Lengths.{regular_length, loop_back_length, requests_length}
@@ -37,8 +37,8 @@ use Rattle.refusals.specs.Refusals.{refusals}
 use Rattle.refusals.proofs.Ends.{Ends, refuses, answers, either, on-bytes, zero_number, is_refusal, numbered}
 
 pushed-zero : (e : Option ℕ) → number (request_answer (req.pushed e)) ≡ 0
-pushed-zero none = zero_number _ _ _
-pushed-zero (some e) = zero_number _ _ _
+pushed-zero None = zero_number _ _ _
+pushed-zero (Some e) = zero_number _ _ _
 
 -- ---- regular
 
@@ -93,8 +93,8 @@ unfolding reg.hub_push_start
 reg_start x m = either (ltb 8191 x) (no-regular 3 refl) (answers (zero_number _ _ _))
 
 reg_push : {l : List ℕ} (w : Option ℕ) → Regular l (reg.push_next w)
-reg_push none m = answers (zero_number _ _ _)
-reg_push (some e) m = answers (zero_number _ _ _)
+reg_push None m = answers (zero_number _ _ _)
+reg_push (Some e) m = answers (zero_number _ _ _)
 
 pub reg_next : Regular (refusals RegHubPushNext) reg.hub_push_next
 unfolding reg.hub_push_next
@@ -132,8 +132,8 @@ unfolding lb.hub_push_start
 lb-start x m = either (ltb 8191 x) (no_loop_back 3 refl) (answers (zero_number _ _ _))
 
 lb_push : {l : List ℕ} (w : Option ℕ) → LoopBack l (lb.push_next w)
-lb_push none m = answers (zero_number _ _ _)
-lb_push (some e) m = answers (zero_number _ _ _)
+lb_push None m = answers (zero_number _ _ _)
+lb_push (Some e) m = answers (zero_number _ _ _)
 
 pub lb-next : LoopBack (refusals LbHubPushNext) lb.hub_push_next
 unfolding lb.hub_push_next
@@ -169,7 +169,7 @@ req_unregister e m = either (ltb 127 e) (no_request 2 refl) (either (has_entry e
 
 pub req_push : (x f : ℕ) → Requests (refusals (ReqPollPush x f)) (req.poll_push x (not (eqb f 0)))
 unfolding req.poll_push
-req_push x f m = either (ltb 511 x) (no_request 3 refl) (answers (pushed-zero (cond (not (eqb f 0)) none (first_on x m))))
+req_push x f m = either (ltb 511 x) (no_request 3 refl) (answers (pushed-zero (cond (not (eqb f 0)) None (first_on x m))))
 
 pub req_open : (n : ℕ) → Ends (refusals ReqOpen) request_answer (req_calls.opening n)
 unfolding req_calls.opening

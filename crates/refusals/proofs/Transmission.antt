@@ -3,7 +3,7 @@ use Prim.Native.Nat.{ℕ}
 use mathlib.Core.Path.{◌≡◌, refl}
 use mathlib.Core.Bool.{true, not}
 use mathlib.Core.List.{List, ◌∷◌}
-use mathlib.Core.Option.{Option, none, some}
+use Rattle.std.specs.Prelude.{Option, None, Some}
 use lib.Dec.{ltb, eqb}
 use Rattle.state.specs.Lengths.{messages_length, responses_length}
 use Rattle.state.specs.Result.{Result, refuse}
@@ -71,15 +71,15 @@ module _ (frame r p n last : ℕ) where
   Settled g = Responses (refusals (TxrSettle frame r p n last)) g
 
   settles : (f : Option Frame) (e k t mask : ℕ) → Settled (txr.settles f r e k t mask)
-  settles none e k t mask m = answers (zero_number _ _ _)
-  settles (some f) e k t mask m = either (txr.is_eot f) (answers (zero_number _ _ _)) (answers (zero_number _ _ _))
+  settles None e k t mask m = answers (zero_number _ _ _)
+  settles (Some f) e k t mask m = either (txr.is_eot f) (answers (zero_number _ _ _)) (answers (zero_number _ _ _))
 
   settle-on : (f : Option Frame) (q : Pick) (k : ℕ) → Settled (txr.settle_on f r q k)
   settle-on f q k m = either (txr.wrong_frame f k q) (no_transmit 12 refl) (settles f (txr.picked k m) k (txr.started_of (sets_of m (txr.picked k m))) q.mask m)
 
   settle-pick : (f : Option Frame) (q : Option Pick) → Settled (txr.settle_pick f r q)
-  settle-pick f none m = no_transmit 11 refl
-  settle-pick f (some q) m = settle-on f q (first_queue q.mask m) m
+  settle-pick f None m = no_transmit 11 refl
+  settle-pick f (Some q) m = settle-on f q (first_queue q.mask m) m
 
   pub txr_settle : Settled (txr.settle (reported (not (eqb frame 0)) p n last) r)
   unfolding txr.settle

@@ -3,7 +3,7 @@ use Prim.Native.Nat.{ℕ, suc, ◌+◌, ◌-◌, ◌<◌, ◌≤◌}
 use mathlib.Core.Path.{◌≡◌, refl, sym, ap, ◌∙◌}
 use mathlib.Core.Logic.{◌≢◌}
 use mathlib.Core.List.{List}
-use mathlib.Core.Option.{Option, none, some}
+use Rattle.std.specs.Prelude.{Option, None, Some}
 use mathlib.Core.Bool.{true, false, ◌&&◌}
 use native.Mathlib.Omega.{arith}
 use native.Mathlib.Decide.{ℕ_discrete}
@@ -85,16 +85,16 @@ module _ (s seen : List ℕ) (g : Ground s seen) where
     once = λ e. omega (arith, two-counts (queue_part s) e Z.classes, (read-valid (queue_part s) g.queue).once e);
   }
 
-  pointed : (e : ℕ) → (read s).walk ≡ some e → e < 128
-  pointed e = by_cond (λ (o : Option ℕ). o ≡ some e → e < 128) (ltb (get_or s 1035 0) 128) {a = some (get_or s 1035 0)} {b = none}
+  pointed : (e : ℕ) → (read s).walk ≡ Some e → e < 128
+  pointed e = by_cond (λ (o : Option ℕ). o ≡ Some e → e < 128) (ltb (get_or s 1035 0) 128) {a = Some (get_or s 1035 0)} {b = None}
       (λ t q. let z : get_or s 1035 0 ≡ e = cc in omega (arith, ltb-true (get_or s 1035 0) 128 t))
       (λ t q. absurd (none-some e q))
     where
       is_none : Option ℕ → ℕ
-      is_none none = 0
-      is_none (some x) = 1
+      is_none None = 0
+      is_none (Some x) = 1
 
-      none-some : (e : ℕ) → none ≡ some e → ⊥
+      none-some : (e : ℕ) → None ≡ Some e → ⊥
       none-some e q = let z : ◌≡◌ {A = ℕ} 0 1 = ap is_none q in omega arith
 
   pub tested : whole_b s ≡ true → Tested (read s) seen
@@ -121,13 +121,13 @@ module _ (s seen : List ℕ) (g : Ground s seen) where
   pub no_last : last_b (read s) ≡ false → whole_b s ≡ false
   no_last f = false_of (whole_b s) (λ h. not-both (sym (tested h).last ∙ f))
 
-  points : (marks : List ℕ) (o : Option ℕ) → pointed_b marks o ≡ true → (e : ℕ) → o ≡ some e → mark_of marks e ≡ 3
-  points marks none h e q = absurd (let z : ◌≡◌ {A = ℕ} 0 1 = cc in omega arith)
-  points marks (some w) h e q = let z : w ≡ e = cc in ap (mark_of marks) (sym z) ∙ eqb-true (mark_of marks w) 3 h
+  points : (marks : List ℕ) (o : Option ℕ) → pointed_b marks o ≡ true → (e : ℕ) → o ≡ Some e → mark_of marks e ≡ 3
+  points marks None h e q = absurd (let z : ◌≡◌ {A = ℕ} 0 1 = cc in omega arith)
+  points marks (Some w) h e q = let z : w ≡ e = cc in ap (mark_of marks) (sym z) ∙ eqb-true (mark_of marks w) 3 h
 
-  of_points : (marks : List ℕ) (o : Option ℕ) → ((e : ℕ) → o ≡ some e → mark_of marks e ≡ 3) → pointed_b marks o ≡ true
-  of_points marks none f = refl
-  of_points marks (some w) f = eq-eqb (mark_of marks w) 3 (f w refl)
+  of_points : (marks : List ℕ) (o : Option ℕ) → ((e : ℕ) → o ≡ Some e → mark_of marks e ≡ 3) → pointed_b marks o ≡ true
+  of_points marks None f = refl
+  of_points marks (Some w) f = eq-eqb (mark_of marks w) 3 (f w refl)
 
   pub whole-last : pairs_b 8191 1 0 1 3 seen 0 (read s).active ≡ true → pairs_b 8191 1 2 2 4 (seen_after 3 seen (read s).active) 0 (read s).inactive ≡ true
       → all_b 128 (met_b (seen_after 4 (seen_after 3 seen (read s).active) (read s).inactive)) ≡ true → last_b (read s) ≡ true

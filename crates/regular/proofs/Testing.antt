@@ -3,7 +3,7 @@ use Prim.Native.Nat.{ℕ, suc, ◌+◌, ◌<◌, ◌≤◌}
 use mathlib.Core.Path.{◌≡◌, refl, sym, ap, ◌∙◌}
 use mathlib.Core.Logic.{◌⊎◌, inl, inr, ⊎_elim}
 use mathlib.Core.List.{List, [], ◌∷◌}
-use mathlib.Core.Option.{Option, none, some}
+use Rattle.std.specs.Prelude.{Option, None, Some}
 use mathlib.Core.Bool.{Bool, true, not, ◌&&◌, ◌||◌}
 use native.Mathlib.Omega.{arith}
 use native.Mathlib.Decide.{ℕ_discrete}
@@ -111,7 +111,7 @@ pub record Tested (m : Registry) (seen : List ℕ) : Type 0 where
   pub inactive : pairs_b 8191 1 2 2 4 (seen_after 3 seen m.active) 0 m.inactive ≡ true
   pub all-met : all_b 128 (met_b (seen_after 4 (seen_after 3 seen m.active) m.inactive)) ≡ true
   pub last : (not m.last_gap || leb (past 0 m.active) 8191) ≡ true
-  pub walk : (e : ℕ) → m.walk ≡ some e → mark_of (seen_after 4 (seen_after 3 seen m.active) m.inactive) e ≡ 3
+  pub walk : (e : ℕ) → m.walk ≡ Some e → mark_of (seen_after 4 (seen_after 3 seen m.active) m.inactive) e ≡ 3
 
 -- marks that name the queued entries of a list ask for their gaps
 gaps_are : (ms seen : List ℕ) (from : ℕ) (l : List Pair) → ((e : ℕ) → 0 < count (is_entry e) l → eqb (mark_of seen e) 1 ≡ queued e ms) → gaps_b seen from l ≡ marks_b ms from l
@@ -124,7 +124,7 @@ unfolding lists.count
 no-marks from [] = refl
 no-marks from (p ∷ l) = no-marks (suc p.subject) l
 
-module _ (m : Registry) (seen : List ℕ) (n : length seen ≡ 256) (k : Marks m.clean_up m.activation seen) (pointed : (e : ℕ) → m.walk ≡ some e → e < 128) where
+module _ (m : Registry) (seen : List ℕ) (n : length seen ≡ 256) (k : Marks m.clean_up m.activation seen) (pointed : (e : ℕ) → m.walk ≡ Some e → e < 128) where
   -- the marks after the first tree, and after both
   abbrev one : List ℕ
   one = seen_after 3 seen m.active
@@ -204,8 +204,8 @@ module _ (m : Registry) (seen : List ℕ) (n : length seen ≡ 256) (k : Marks m
     ]
 
     walks : (o : Option ℕ) → m.walk ≡ o → walk_b m.active o ≡ true
-    walks none q = refl
-    walks (some e) q = lt-ltb 0 (count (is_entry e) m.active) (elim (ℕ_discrete (count (is_entry e) m.active) 0) [
+    walks None q = refl
+    walks (Some e) q = lt-ltb 0 (count (is_entry e) m.active) (elim (ℕ_discrete (count (is_entry e) m.active) 0) [
       | no x ↦ omega arith
       | yes x ↦ elim (ℕ_discrete (count (is_entry e) m.inactive) 0) [
         | yes z ↦ absurd (omega (arith, t.walk e q, out2 e z, out e x, k.most e (pointed e q)))

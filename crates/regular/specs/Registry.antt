@@ -1,6 +1,5 @@
 -- The regular registry in plain words, and when it is whole.
-use Rattle.std.specs.Prelude.{ℕ, suc, ◌+◌, List, [], ◌∷◌, Bool, true, false, not, ◌&&◌, ◌||◌, eqb, leb, ltb}
-use Rattle.std.proofs.Math.Option.{Option, none}
+use Rattle.std.specs.Prelude.{ℕ, suc, ◌+◌, List, [], ◌∷◌, Bool, true, false, not, ◌&&◌, ◌||◌, eqb, leb, ltb, Option, None}
 use Rattle.state.specs.Seq.{all_b}
 use Rattle.multi_cycle_list.specs.Lists as lists
 use Rattle.entry_tree.specs.Pairs.{Pair, count, is_entry, past, in_order, in_range}
@@ -19,7 +18,7 @@ pub record Registry : Type 0 where
   pub walk : Option ℕ
 
 abbrev pub fresh : ℕ → Registry
-fresh n = record { inactive = []; active = []; activation = []; clean_up = []; last_gap = false; slots = n; walk = none }
+fresh n = record { inactive = []; active = []; activation = []; clean_up = []; last_gap = false; slots = n; walk = None }
 
 -- the entry e stands in a queue
 abbrev pub queued : ℕ → List ℕ → Bool

@@ -1,11 +1,10 @@
 -- The calls of the regular registry on its plain meaning, as document 01 has them.
-use Rattle.std.specs.Prelude.{ℕ, zero, suc, ◌+◌, ◌-◌, List, [], ◌∷◌, ◌++◌, Bool, true, false, cond, not, ◌&&◌, ◌||◌, eqb, leb, ltb, length}
-use Rattle.std.proofs.Math.Option.{Option, none, some}
+use Rattle.std.specs.Prelude.{ℕ, zero, suc, ◌+◌, ◌-◌, List, [], ◌∷◌, ◌++◌, Bool, true, false, cond, not, ◌&&◌, ◌||◌, eqb, leb, ltb, length, Option, None, Some, is_some}
 use Rattle.state.specs.Seq.{to_nat}
 use Rattle.state.specs.Result.{Result, refuse, done}
 use Rattle.multi_cycle_list.specs.Lists as lists
 use Rattle.entry_tree.specs.Pairs.{Pair, pair, Place, has_entry, has_subject, without, inserted, place_of, past}
-use Rattle.entry_tree.specs.Walks.{is_some, first_on, next_on, moved_past}
+use Rattle.entry_tree.specs.Walks.{first_on, next_on, moved_past}
 use Rattle.regular.specs.Registry.{Registry, queued}
 use Rattle.regular.specs.declared.Answer.{Answer}
 use Rattle.regular.specs.declared.Answer.TheVariants.{Refused, Accepted, AddSubject, RemoveSubjectRange, Nothing, Started, Pushed, NotPushed}
@@ -129,8 +128,8 @@ abbrev pub push_at : ℕ → Place → Registry → Result Answer Registry
 push_at e p m = done (Pushed e (is_some (goes_on p))) (with_walk (goes_on p) m)
 
 abbrev pub push_next : Option ℕ → Registry → Result Answer Registry
-push_next none m = done NotPushed m
-push_next (some e) m = push_at e (place_of e m.active) m
+push_next None m = done NotPushed m
+push_next (Some e) m = push_at e (place_of e m.active) m
 
 unfoldable pub hub_push_next : Registry → Result Answer Registry
 hub_push_next m = push_next m.walk m

@@ -3,7 +3,7 @@ use Prim.Native.Nat.{ℕ, suc, ◌+◌, ◌-◌, ◌/◌, ◌%◌, ◌<◌, ◌�
 use mathlib.Core.Path.{◌≡◌, refl, sym, ap, ◌∙◌, subst}
 use mathlib.Core.Logic.{◌≢◌}
 use mathlib.Core.List.{List, [], ◌∷◌, ◌++◌}
-use mathlib.Core.Option.{Option, none}
+use Rattle.std.specs.Prelude.{Option, None}
 use mathlib.Core.Bool.{Bool, true, false, not, cond, ◌||◌}
 use native.Mathlib.Omega.{arith}
 use native.Mathlib.Decide.{ℕ_discrete}
@@ -26,7 +26,7 @@ use Rattle.multi_cycle_list.proofs.Laid as queues
 use Rattle.multi_cycle_list.proofs.Changes.{remove-valid}
 use Rattle.entry_tree.specs.Pairs.{Pair, pair, count, is_entry, has_entry, has_subject, inserted, place_of, Place, past}
 use Rattle.entry_tree.specs.Places as tree
-use Rattle.entry_tree.specs.Inner.{position, removed_at, walk_at, with_walk_past}
+use Rattle.entry_tree.specs.Inner.{position, removed_at, with_walk_past}
 use Rattle.entry_tree.proofs.Laid as trees
 use Rattle.entry_tree.proofs.Changes.{removed-length, inserted-length}
 use Rattle.entry_tree.proofs.Reading.{read_length, read-place-subject}
@@ -49,7 +49,6 @@ use Rattle.regular_valid.proofs.Round.{tail_of, tail_laid, split-long, split-who
 use Rattle.regular_change.specs.Inner.{from_at, gap_before, gap_of, more, with_slots, with_flag}
 use Rattle.regular.specs.declared.Popped.TheVariants as pops
 use Rattle.regular_change.proofs.Looks.{place-from-at}
-use Rattle.entry_tree.specs.declared.walk.Walk.{Walk}
 use Rattle.regular_change.specs.declared.look.Gap.{Gap}
 use Rattle.regular_change.specs.declared.look.Gap.TheVariants.{Same, Withdrawn, Marked, Last}
 
@@ -92,7 +91,7 @@ opened n =
     (empty_tree I j0.long-i (bytes-part 385 385 b (zero-bytes 1036)) (get_or-take 385 (drop 385 b) 0 0 (omega arith) ∙ get_or-drop 385 b 0 0 ∙ zero-at 385 (omega arith)))
     refl refl refl
     (zero-at 1034 (omega arith))
-    (ap (walk_over none) (sym (zero-at 1035 (omega arith))))
+    (ap (walk_over None) (sym (zero-at 1035 (omega arith))))
 
 -- ---- what a gap comes to
 
@@ -591,7 +590,7 @@ module _ (b : List ℕ) (y : Bytes b) (h : whole_b b ≡ true) where
       Jc = laid-joined c1 b whole_long (omega (arith, read_length A, few-active)) (omega (arith, read_length I, few-inactive))
 
       -- the walk goes on
-      module _ (w : Walk) (wq : walk_at w ≡ next_on (tree.subject_at A i) (drop (suc i) m.active)) where
+      module _ (w : Option ℕ) (wq : w ≡ next_on (tree.subject_at A i) (drop (suc i) m.active)) where
         abbrev sc : List ℕ
         sc = laid c1 b
 
@@ -600,20 +599,20 @@ module _ (b : List ℕ) (y : Bytes b) (h : whole_b b ≡ true) where
 
         pub record Walked : Type 0 where
           pub byte : ℕ
-          pub joined : Joined (with_walk_past 1035 sc e (walk_at w)) (tree.laid m.active A) (tree.laid m.inactive I) (lists_laid.laid (queue_of c1)) (m.slots % 256 ∷ (m.slots / 256 ∷ (flag_over g.last_gap (get_or b 1034 0) ∷ (byte ∷ []))))
+          pub joined : Joined (with_walk_past 1035 sc e w) (tree.laid m.active A) (tree.laid m.inactive I) (lists_laid.laid (queue_of c1)) (m.slots % 256 ∷ (m.slots / 256 ∷ (flag_over g.last_gap (get_or b 1034 0) ∷ (byte ∷ []))))
           pub is : byte ≡ walk_over (moved_past e (goes_on p) m.walk) (get_or b 1035 0)
 
         pub walked : Walked
         walked = elim (ℕ_discrete (get_or sc 1035 0) e) [
           | yes q ↦ record {
-            byte = walk_over (walk_at w) (get_or sc 1035 0);
-            joined = subst (λ (z : List ℕ). Joined z (tree.laid m.active A) (tree.laid m.inactive I) (lists_laid.laid (queue_of c1)) (m.slots % 256 ∷ (m.slots / 256 ∷ (flag_over g.last_gap (get_or b 1034 0) ∷ (walk_over (walk_at w) (get_or sc 1035 0) ∷ [])))))
-                (walk-past 1035 sc e (walk_at w) q) (set-tail sc (tree.laid m.active A) (tree.laid m.inactive I) (lists_laid.laid (queue_of c1)) (tail_laid c1 b) Jc 3 (walk_over (walk_at w) (get_or sc 1035 0)) (omega arith));
-            is = ap (walk_over (walk_at w)) byte-is ∙ ap (λ (o : Option ℕ). walk_over o (get_or b 1035 0)) (wq ∙ sym (place-next A e i at place-active) ∙ sym (past-here (get_or b 1035 0) e (goes_on p) (sym byte-is ∙ q) active-entry));
+            byte = walk_over w (get_or sc 1035 0);
+            joined = subst (λ (z : List ℕ). Joined z (tree.laid m.active A) (tree.laid m.inactive I) (lists_laid.laid (queue_of c1)) (m.slots % 256 ∷ (m.slots / 256 ∷ (flag_over g.last_gap (get_or b 1034 0) ∷ (walk_over w (get_or sc 1035 0) ∷ [])))))
+                (walk-past 1035 sc e w q) (set-tail sc (tree.laid m.active A) (tree.laid m.inactive I) (lists_laid.laid (queue_of c1)) (tail_laid c1 b) Jc 3 (walk_over w (get_or sc 1035 0)) (omega arith));
+            is = ap (walk_over w) byte-is ∙ ap (λ (o : Option ℕ). walk_over o (get_or b 1035 0)) (wq ∙ sym (place-next A e i at place-active) ∙ sym (past-here (get_or b 1035 0) e (goes_on p) (sym byte-is ∙ q) active-entry));
           }
           | no q ↦ record {
             byte = walk_over m.walk (get_or b 1035 0);
-            joined = subst (λ (z : List ℕ). Joined z (tree.laid m.active A) (tree.laid m.inactive I) (lists_laid.laid (queue_of c1)) (tail_laid c1 b)) (walk-stays 1035 sc e (walk_at w) q) Jc;
+            joined = subst (λ (z : List ℕ). Joined z (tree.laid m.active A) (tree.laid m.inactive I) (lists_laid.laid (queue_of c1)) (tail_laid c1 b)) (walk-stays 1035 sc e w q) Jc;
             is = ap (λ (o : Option ℕ). walk_over o (get_or b 1035 0)) (sym (past-other (get_or b 1035 0) e (goes_on p) (λ z. q (byte-is ∙ z))));
           }
         ]

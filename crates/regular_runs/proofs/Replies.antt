@@ -1,7 +1,7 @@
 -- The registry's answers to registering and removing: accepted, or a refusal whose number is not 0 and fits its field.
 use Prim.Native.Nat.{ℕ, ◌+◌, ◌<◌}
 use mathlib.Core.Path.{◌≡◌, refl}
-use mathlib.Core.Option.{Option, none, some}
+use Rattle.std.specs.Prelude.{Option, None, Some}
 use mathlib.Core.Bool.{Bool, true, false, ◌||◌}
 use native.Mathlib.Omega.{arith}
 use lib.Dec.{eqb, ltb}
@@ -61,8 +61,8 @@ unfolding hub_push_start
 start-quiet x m F y = by_cond (λ (r : Result Answer Registry). into (answer r) F y ≡ F y) (ltb 8191 x) (λ h. refl) (λ h. refl)
 
 next-quiet : (o : Option ℕ) (m : Registry) (F : ℕ → Bool) (y : ℕ) → into (answer (push_next o m)) F y ≡ F y
-next-quiet none m F y = refl
-next-quiet (some e) m F y = refl
+next-quiet None m F y = refl
+next-quiet (Some e) m F y = refl
 
 pub push_quiet : (m : Registry) (F : ℕ → Bool) (y : ℕ) → into (answer (hub_push_next m)) F y ≡ F y
 unfolding hub_push_next

@@ -2,7 +2,7 @@
 use Prim.Native.Nat.{ℕ, ◌+◌, ◌-◌, ◌≤◌, ◌<◌}
 use mathlib.Core.Path.{◌≡◌, refl, sym, ap, ◌∙◌}
 use mathlib.Core.Bool.{Bool, true, false, not, ◌&&◌, ◌||◌, and-false}
-use mathlib.Core.Option.{Option, none, some}
+use Rattle.std.specs.Prelude.{Option, None, Some}
 use mathlib.Core.List.{List, [], ◌∷◌, ◌++◌, map}
 use native.Mathlib.Omega.{arith}
 use lib.Dec.{eqb, ltb}
@@ -145,7 +145,7 @@ unregister-kept m F g i e =
 
 -- ---- walking
 
-walk-inv : (m : Registry) (F : ℕ → Bool) (g : Registered) → Inv m F g → (o : Option ℕ) → ((y : ℕ) → o ≡ some y → 0 < count (is_entry y) m.active) → Inv (with_walk o m) F g
+walk-inv : (m : Registry) (F : ℕ → Bool) (g : Registered) → Inv m F g → (o : Option ℕ) → ((y : ℕ) → o ≡ Some y → 0 < count (is_entry y) m.active) → Inv (with_walk o m) F g
 walk-inv m F g i o h = record { sound = walk-sound m F i.sound o h; room = i.room; queue = i.queue; waiting = i.waiting; active = i.active }
 
 pub start-kept : (m : Registry) (F : ℕ → Bool) (g : Registered) → Inv m F g → (x : ℕ) → Kept (HubPushStart x) m F g (hub_push_start x m)
@@ -155,8 +155,8 @@ start-kept m F g i x =
     (λ y. record { inv = walk-inv m F g i (first_on x m.active) (λ y. first-in x y m.active); clear = λ y h. not-both (sym h) })
 
 next-kept : (m : Registry) (F : ℕ → Bool) (g : Registered) → Inv m F g → (o : Option ℕ) → Kept HubPushNext m F g (push_next o m)
-next-kept m F g i none = record { inv = i; clear = λ y h. not-both (sym h) }
-next-kept m F g i (some e) = record {
+next-kept m F g i None = record { inv = i; clear = λ y h. not-both (sym h) }
+next-kept m F g i (Some e) = record {
   inv = walk-inv m F g i (next_on (place_of e m.active).subject (place_of e m.active).rest) (λ y q. omega (arith, next_in (place_of e m.active).subject y (place_of e m.active).rest q, find-rest y e 0 m.active));
   clear = λ y h. not-both (sym h);
 }

@@ -2,7 +2,7 @@
 use Prim.Native.Nat.{ℕ, suc, ◌+◌, ◌-◌, ◌≤◌, ◌<◌}
 use mathlib.Core.Path.{◌≡◌, refl, sym, ◌∙◌}
 use mathlib.Core.Bool.{Bool, true, false, not, ◌||◌}
-use mathlib.Core.Option.{Option, none, some}
+use Rattle.std.specs.Prelude.{Option, None, Some}
 use mathlib.Core.List.{List, [], ◌∷◌, ◌++◌}
 use native.Mathlib.Omega.{arith}
 use lib.Dec.{leb, ltb}
@@ -37,7 +37,7 @@ pub record Facts (m : Registry) : Type 0 where
   pub inactive-order : Ordered (λ e. 0) 0 m.inactive
   pub active-order : Ordered (λ e. lists.count e m.clean_up) 0 m.active
   pub last-gap : m.last_gap ≡ true → past 0 m.active ≤ 8191
-  pub walks : (e : ℕ) → m.walk ≡ some e → 0 < count (is_entry e) m.active
+  pub walks : (e : ℕ) → m.walk ≡ Some e → 0 < count (is_entry e) m.active
 
 -- the queues hold no number past 127: on bytes the queue's own wholeness says so
 pub record Inside (m : Registry) : Type 0 where
@@ -95,13 +95,13 @@ no-marks from (p ∷ l) = no-marks (suc p.subject) l
 
 -- ---- the walk
 
-walk_at : (l : List Pair) (w : Option ℕ) → walk_b l w ≡ true → (e : ℕ) → w ≡ some e → 0 < count (is_entry e) l
-walk_at l none h e q = absurd (let z : ◌≡◌ {A = ℕ} 0 1 = cc in omega arith)
-walk_at l (some v) h e q = let r : v ≡ e = cc in rw (← r) (any-true (is_entry v) l h)
+walk_at : (l : List Pair) (w : Option ℕ) → walk_b l w ≡ true → (e : ℕ) → w ≡ Some e → 0 < count (is_entry e) l
+walk_at l None h e q = absurd (let z : ◌≡◌ {A = ℕ} 0 1 = cc in omega arith)
+walk_at l (Some v) h e q = let r : v ≡ e = cc in rw (← r) (any-true (is_entry v) l h)
 
-at-walk : (l : List Pair) (w : Option ℕ) → ((e : ℕ) → w ≡ some e → 0 < count (is_entry e) l) → walk_b l w ≡ true
-at-walk l none h = refl
-at-walk l (some v) h = true-any (is_entry v) l (h v refl)
+at-walk : (l : List Pair) (w : Option ℕ) → ((e : ℕ) → w ≡ Some e → 0 < count (is_entry e) l) → walk_b l w ≡ true
+at-walk l None h = refl
+at-walk l (Some v) h = true-any (is_entry v) l (h v refl)
 
 -- ---- the test and the facts
 

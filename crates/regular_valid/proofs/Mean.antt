@@ -2,7 +2,7 @@
 use Prim.Native.Nat.{ℕ, zero, suc, ◌+◌, ◌*◌, ◌/◌, ◌%◌, ◌<◌, ◌≤◌}
 use mathlib.Core.Path.{◌≡◌, refl, sym, ap, ◌∙◌, subst}
 use mathlib.Core.List.{List, [], ◌∷◌, ◌++◌}
-use mathlib.Core.Option.{some}
+use Rattle.std.specs.Prelude.{Some}
 use mathlib.Core.Bool.{Bool, true, false, not, cond}
 use native.Mathlib.Omega.{arith}
 use lib.Dec.{eqb, ltb}
@@ -87,7 +87,7 @@ module _ (m : Registry) (b : List ℕ) (y : Bytes b) (f : Valid m) (l : length b
   unfolding t A I Q T
   j = laid-joined m b l few.0 few.1
 
-  walks : (e : ℕ) → m.walk ≡ some e → e < 128
+  walks : (e : ℕ) → m.walk ≡ Some e → e < 128
   walks e q = omega (arith, w.entries e (omega (arith, w.walks e q)))
 
   pub read_laid : read (laid m b) ≡ m

@@ -3,7 +3,7 @@ use Prim.Native.Nat.{ℕ, zero, suc, ◌/◌, ◌%◌, ◌≤◌}
 use mathlib.Core.Path.{◌≡◌, refl, sym, ap, ◌∙◌, subst}
 use mathlib.Core.Logic.{◌⊎◌, ⊎_elim}
 use mathlib.Core.List.{List, [], ◌∷◌, ◌++◌}
-use mathlib.Core.Option.{Option, none, some}
+use Rattle.std.specs.Prelude.{Option, None, Some}
 use mathlib.Core.Bool.{Bool, true, false, not}
 use native.Mathlib.Omega.{arith}
 use native.Mathlib.Decide.{dec_lt}
@@ -75,8 +75,8 @@ flag-again true true (suc v) h = let n = ne_eqb (suc v) 0 (λ q. omega arith) in
 flag-again false true v h = ⊎_elim (λ q. not-both q) (λ q. not-both q) h
 
 walk-again : (w : Option ℕ) (v : ℕ) → walk_over w (walk_over w v) ≡ walk_over w v
-walk-again none v = elim (dec_lt v 128) [ yes l ↦ rw (lt-ltb v 128 l) | no l ↦ rw (le-ltb v 128 (omega arith), le-ltb v 128 (omega arith)) ]
-walk-again (some e) v = refl
+walk-again None v = elim (dec_lt v 128) [ yes l ↦ rw (lt-ltb v 128 l) | no l ↦ rw (le-ltb v 128 (omega arith), le-ltb v 128 (omega arith)) ]
+walk-again (Some e) v = refl
 
 -- ---- what is laid
 

@@ -3,7 +3,7 @@ use Prim.Native.Nat.{ℕ, ◌-◌, ◌≤◌, ◌<◌}
 use mathlib.Core.Path.{◌≡◌, refl, sym, ◌∙◌}
 use mathlib.Core.Logic.{◌≢◌, ◌⊎◌, inl, inr}
 use mathlib.Core.Bool.{Bool, true, false, cond}
-use mathlib.Core.Option.{Option, some}
+use Rattle.std.specs.Prelude.{Option, Some}
 use mathlib.Core.List.{List, [], ◌∷◌}
 use native.Mathlib.Omega.{arith}
 use lib.Dec.{T}
@@ -143,7 +143,7 @@ flag-after e d ms f = elim (compare_le d.from d.subject) [ below i t ↦ rw t (g
     go (q ∷ l) i y = inl y
 
 module _ (m : Registry) (F : ℕ → Bool) (s : Sound m F) (e : ℕ) (k : 0 < count (is_entry e) m.active) where
-  walk-out : (y : ℕ) → moved_past e (goes_on (place_of e m.active)) m.walk ≡ some y → 0 < count (is_entry y) (without e m.active)
+  walk-out : (y : ℕ) → moved_past e (goes_on (place_of e m.active)) m.walk ≡ Some y → 0 < count (is_entry y) (without e m.active)
   walk-out =
       past_in e (goes_on (place_of e m.active)) m.active (omega (arith, s.facts.once e))
       (λ y. next_in (place_of e m.active).subject y (place_of e m.active).rest) m.walk s.facts.walks
@@ -275,7 +275,7 @@ module _ (m : Registry) (F : ℕ → Bool) (s : Sound m F) where
 
 -- ---- walking
 
-pub walk-sound : (m : Registry) (F : ℕ → Bool) → Sound m F → (o : Option ℕ) → ((y : ℕ) → o ≡ some y → 0 < count (is_entry y) m.active) → Sound (with_walk o m) F
+pub walk-sound : (m : Registry) (F : ℕ → Bool) → Sound m F → (o : Option ℕ) → ((y : ℕ) → o ≡ Some y → 0 < count (is_entry y) m.active) → Sound (with_walk o m) F
 walk-sound m F s o h = record {
   facts = record {
     once = s.facts.once;

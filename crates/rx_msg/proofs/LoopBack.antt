@@ -3,7 +3,7 @@ use Prim.Native.Nat.{ℕ, ◌<◌, ◌≤◌}
 use mathlib.Core.Path.{◌≡◌, refl, sym, ap, ◌∙◌}
 use mathlib.Core.Logic.{◌≢◌}
 use mathlib.Core.List.{List}
-use mathlib.Core.Option.{Option, some}
+use Rattle.std.specs.Prelude.{Option, Some, is_some}
 use mathlib.Core.Bool.{Bool, true, false}
 use native.Mathlib.Omega.{arith}
 use lib.ListN.{length, get_or, replicate}
@@ -13,7 +13,7 @@ use Rattle.state.proofs.Calls.{Ends, refused, laid_out}
 use Rattle.entry_tree.specs.Pairs.{is_entry, has_entry, place_of}
 use Rattle.entry_tree.specs.Inner.{position}
 use Rattle.entry_tree.specs.Places as tree
-use Rattle.entry_tree.specs.Walks.{is_some, first_on}
+use Rattle.entry_tree.specs.Walks.{first_on}
 use Rattle.entry_tree.specs.Inner as inner
 use Rattle.entry_tree.proofs.Count.{true-any}
 use Rattle.entry_tree.proofs.Finding.{found-is, place_in}
@@ -113,7 +113,7 @@ module _ (s : List ℕ) (h : whole_b s ≡ true) where
     next_nowhere b = laid_out whole_b read laid (Refused 1) hub_push_next s h NotPushed m s (ap (λ (w : Option ℕ). push_next w m) (walk_nowhere e b)) (sym (laid_read s y h))
 
     module _ (b : e ≤ 127) where
-      pointed : m.walk ≡ some e
+      pointed : m.walk ≡ Some e
       pointed = walk_at_lem e e refl (omega arith)
 
       pub pointed-place : (i : ℕ) → i ≡ position (is_entry e) m.entries → i < tree.size T

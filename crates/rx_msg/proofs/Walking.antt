@@ -2,7 +2,7 @@
 use Prim.Native.Nat.{ℕ, suc, ◌<◌, ◌≤◌}
 use mathlib.Core.Path.{◌≡◌, refl, sym, ap, ◌∙◌}
 use mathlib.Core.List.{List}
-use mathlib.Core.Option.{Option, none, some}
+use Rattle.std.specs.Prelude.{Option, None, Some, is_some}
 use mathlib.Core.Bool.{Bool, true}
 use native.Mathlib.Omega.{arith}
 use lib.ListN.{get_or, drop}
@@ -12,7 +12,7 @@ use Rattle.state.proofs.Calls.{Ends}
 use Rattle.entry_tree.specs.Pairs.{is_entry, place_of}
 use Rattle.entry_tree.specs.Places as tree
 use Rattle.entry_tree.specs.Places.{size, subject_at}
-use Rattle.entry_tree.specs.Walks.{first_on, is_some, next_on, walk_over}
+use Rattle.entry_tree.specs.Walks.{first_on, next_on, walk_over}
 use Rattle.regular.specs.Registry.{Registry}
 use Rattle.regular.specs.Bytes.{active_part, inactive_part, queue_part, whole_b, read, laid}
 use Rattle.regular.specs.Steps as steps
@@ -61,11 +61,11 @@ module _ (s : List ℕ) (h : whole_b s ≡ true) (x : ℕ) where
 
 -- ---- continuing
 
-next-none : (m : Registry) → m.walk ≡ none → hub_push_next m ≡ done NotPushed m
+next-none : (m : Registry) → m.walk ≡ None → hub_push_next m ≡ done NotPushed m
 unfolding hub_push_next
 next-none m q = ap (λ (w : Option ℕ). push_next w m) q
 
-next-is : (m : Registry) (e : ℕ) (w : Option ℕ) → m.walk ≡ some e → next_on (place_of e m.active).subject (place_of e m.active).rest ≡ w
+next-is : (m : Registry) (e : ℕ) (w : Option ℕ) → m.walk ≡ Some e → next_on (place_of e m.active).subject (place_of e m.active).rest ≡ w
     → hub_push_next m ≡ done (Pushed e (is_some w)) (steps.with_walk w m)
 unfolding hub_push_next
 next-is m e w q v = ap (λ (o : Option ℕ). push_next o m) q ∙ ap (λ (o : Option ℕ). done (Pushed e (is_some o)) (steps.with_walk o m)) v
@@ -73,11 +73,11 @@ next-is m e w q v = ap (λ (o : Option ℕ). push_next o m) q ∙ ap (λ (o : Op
 module _ (s : List ℕ) (y : Bytes s) (h : whole_b s ≡ true) (e : ℕ) (qe : e ≡ get_or s 1035 0) where
   pub next_nowhere : 127 < e → Ends laid s (on hub_push_next s) NotPushed s
   next_nowhere l =
-      let w : (read s).walk ≡ none = walk_nowhere (get_or s 1035 0) (omega arith) in
+      let w : (read s).walk ≡ None = walk_nowhere (get_or s 1035 0) (omega arith) in
       changes s h hub_push_next NotPushed (read s) s (next-none (read s) w) (sym (laid_read s y h))
 
   module _ (l : e ≤ 127) where
-    pointed : (read s).walk ≡ some e
+    pointed : (read s).walk ≡ Some e
     pointed = walk_at_lem (get_or s 1035 0) e (sym qe) (omega arith)
 
     pub pointed-place : (i : ℕ) → i ≡ position (is_entry e) (tree.read (active_part s)) → i < size (active_part s)

@@ -5,7 +5,7 @@ ghost use Rattle.state.specs.Result.{answer};
 ghost use Rattle.loop_back.specs.Steps.{register, unregister, hub_push_start, hub_push_next};
 ghost use Rattle.loop_back.specs.Calls.{on, bytes, opening, opened_bytes};
 
-use entry_tree::walk::{is_at, set_walk, start_on};
+use entry_tree::walk::{set_walk, start_on};
 use entry_tree::{has_entry, len, position};
 use loop_back::{Answer, join, leave, next_push, open_registry, whole};
 
@@ -66,7 +66,7 @@ pub fn hub_push_start(s: &mut [u8], subject: u32) -> Answer
     }
     let w = start_on(&s[0..385], subject as u16);
     set_walk(s, 385, w);
-    Answer::Started(is_at(w))
+    Answer::Started(w.is_some())
 }
 
 pub fn hub_push_next(s: &mut [u8]) -> Answer
@@ -82,5 +82,5 @@ pub fn hub_push_next(s: &mut [u8]) -> Answer
     let i = position(&s[0..385], e);
     let w = next_push(&s[0..385], i, e);
     set_walk(s, 385, w);
-    Answer::Pushed(e, is_at(w))
+    Answer::Pushed(e, w.is_some())
 }

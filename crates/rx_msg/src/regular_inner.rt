@@ -9,7 +9,7 @@ ghost use Rattle.regular.specs.Calls.{on, bytes, opening, opened_bytes};
 ghost use Rattle.regular_change.specs.Inner as inner;
 
 use entry_tree::position;
-use entry_tree::walk::{is_at, next_on, set_walk, start_on};
+use entry_tree::walk::{next_on, set_walk, start_on};
 use multi_cycle_list::inner::{MaybeEntry, inner_front};
 use regular::{Answer, Popped, whole};
 use regular_activation::activate_known;
@@ -186,7 +186,7 @@ pub fn hub_push_start(s: &mut [u8], subject: u32) -> Answer
     }
     let w = start_on(&s[0..385], subject as u16);
     set_walk(s, 1035, w);
-    Answer::Started(is_at(w))
+    Answer::Started(w.is_some())
 }
 
 pub fn hub_push_next(s: &mut [u8]) -> Answer
@@ -202,5 +202,5 @@ pub fn hub_push_next(s: &mut [u8]) -> Answer
     let i = position(&s[0..385], e);
     let w = next_on(&s[0..385], i);
     set_walk(s, 1035, w);
-    Answer::Pushed(e, is_at(w))
+    Answer::Pushed(e, w.is_some())
 }

@@ -3,7 +3,7 @@ use Prim.Native.Nat.{ℕ, ◌<◌, ◌≤◌}
 use mathlib.Core.Path.{◌≡◌, refl, sym, ap, ◌∙◌}
 use mathlib.Core.Logic.{◌≢◌}
 use mathlib.Core.List.{List, []}
-use mathlib.Core.Option.{Option, none, some}
+use Rattle.std.specs.Prelude.{Option, None, Some}
 use mathlib.Core.Bool.{Bool, true, false, cond}
 use native.Mathlib.Omega.{arith}
 use lib.ListN.{length, replicate, length-replicate, get_or-replicate}
@@ -116,7 +116,7 @@ module _ (e : ℕ) (s : List ℕ) (h : whole_b s ≡ true) where
 -- ---- a frame
 
 module _ (x : ℕ) (loop_back : Bool) (s : List ℕ) (h : whole_b s ≡ true) where
-  poll-is : x ≤ 511 → pushed (cond loop_back none (first_on x (read s))) ≡ answer (on (poll_push x loop_back) s)
+  poll-is : x ≤ 511 → pushed (cond loop_back None (first_on x (read s))) ≡ answer (on (poll_push x loop_back) s)
   unfolding poll_push
   poll-is hx = rw (h, le-ltb 511 x hx)
 
@@ -125,15 +125,15 @@ module _ (x : ℕ) (loop_back : Bool) (s : List ℕ) (h : whole_b s ≡ true) wh
   poll_service i = rw (h, lt-ltb 511 x i)
 
   pub poll_looped : x ≤ 511 → loop_back ≡ true → NotPushed ≡ answer (on (poll_push x loop_back) s)
-  poll_looped hx q = sym (ap (λ (b : Bool). pushed (cond b none (first_on x (read s)))) q) ∙ poll-is hx
+  poll_looped hx q = sym (ap (λ (b : Bool). pushed (cond b None (first_on x (read s)))) q) ∙ poll-is hx
 
   -- the service's place i, of n
   module _ (hx : x ≤ 511) (q : loop_back ≡ false) (i n : ℕ) (qi : i ≡ position (on_subject x) (read s)) (qn : n ≡ size s) where
     poll-first : (o : Option ℕ) → o ≡ first_on x (read s) → pushed o ≡ answer (on (poll_push x loop_back) s)
-    poll-first o z = ap pushed z ∙ sym (ap (λ (b : Bool). pushed (cond b none (first_on x (read s)))) q) ∙ poll-is hx
+    poll-first o z = ap pushed z ∙ sym (ap (λ (b : Bool). pushed (cond b None (first_on x (read s)))) q) ∙ poll-is hx
 
     pub poll-none : n ≤ i → NotPushed ≡ answer (on (poll_push x loop_back) s)
-    poll-none b = poll-first none (start_none s x i qi n qn b)
+    poll-none b = poll-first None (start_none s x i qi n qn b)
 
     pub poll-at : i < n → (e : ℕ) → e ≡ entry_at s i → Pushed e ≡ answer (on (poll_push x loop_back) s)
-    poll-at b e z = poll-first (some e) (start-at s x i qi n e qn b z)
+    poll-at b e z = poll-first (Some e) (start-at s x i qi n e qn b z)

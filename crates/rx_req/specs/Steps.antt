@@ -1,6 +1,5 @@
 -- The calls of the request registry on its plain meaning, as document 01 has them.
-use Rattle.std.specs.Prelude.{ℕ, Bool, cond, ltb}
-use Rattle.std.proofs.Math.Option.{Option, none, some}
+use Rattle.std.specs.Prelude.{ℕ, Bool, cond, ltb, Option, None, Some}
 use Rattle.state.specs.Result.{Result, refuse, done}
 use Rattle.entry_tree.specs.Pairs.{pair, has_entry, has_subject, without, inserted}
 use Rattle.entry_tree.specs.Walks.{first_on}
@@ -24,12 +23,12 @@ unregister e m =
 
 -- the entry that gets a frame
 abbrev pub pushed : Option ℕ → Answer
-pushed none = NotPushed
-pushed (some e) = Pushed e
+pushed None = NotPushed
+pushed (Some e) = Pushed e
 
 -- a frame goes to the one entry of its service, and a loop-back frame to none
 unfoldable pub poll_push : ℕ → Bool → Registry → Result Answer Registry
-poll_push x loop_back m = cond (ltb 511 x) (refuse (Refused 3)) (done (pushed (cond loop_back none (first_on x m))) m)
+poll_push x loop_back m = cond (ltb 511 x) (refuse (Refused 3)) (done (pushed (cond loop_back None (first_on x m))) m)
 
 -- ---- every call but opening
 

@@ -3,7 +3,7 @@ use Prim.Native.Nat.{ℕ, ◌+◌, ◌<◌, ◌≤◌}
 use mathlib.Core.Path.{◌≡◌, refl, sym, ap, ◌∙◌}
 use mathlib.Core.Logic.{◌≢◌}
 use mathlib.Core.List.{List, [], ◌∷◌, ◌++◌}
-use mathlib.Core.Option.{Option, none}
+use Rattle.std.specs.Prelude.{Option, None}
 use mathlib.Core.Bool.{true, cond}
 use native.Mathlib.Omega.{arith}
 use lib.Dec.{eqb}
@@ -98,14 +98,14 @@ module _ (s : List ℕ) (y : Bytes s) (h : whole_b s ≡ true) (e : ℕ) (he : e
 
   -- the entry leaves
 
-  pub left : m.pick ≡ none → (from : ℕ) (p : List ℕ) → p ≡ lists.laid (without_entry e (nodes.read (queue_part s))) → set (put_mid 0 290 s p) (546 + e) 0 ≡ laid (becomes e from none m) s
+  pub left : m.pick ≡ None → (from : ℕ) (p : List ℕ) → p ≡ lists.laid (without_entry e (nodes.read (queue_part s))) → set (put_mid 0 290 s p) (546 + e) 0 ≡ laid (becomes e from None m) s
   left c from p q =
       ap (λ (z : List ℕ). set z (546 + e) 0) (requeue_out from 16 (omega arith) p q)
-      ∙ laid_from (becomes e from none m) s (set-flag (with_queues s (requeued from 16 e m.queues)) (Q from 16) (each 128 (ready_at s)) (each 128 (started_at s)) (each 128 (flag_at s)) (tail_of s) (J from 16) e 0 he)
+      ∙ laid_from (becomes e from None m) s (set-flag (with_queues s (requeued from 16 e m.queues)) (Q from 16) (each 128 (ready_at s)) (each 128 (started_at s)) (each 128 (flag_at s)) (tail_of s) (J from 16) e 0 he)
       refl
-      (part-kept s (becomes e from none m) e none he refl (ready_at s) ready_over (ready-self s y h) refl)
-      (part-kept s (becomes e from none m) e none he refl (started_at s) started_over (started-self s y h) refl)
-      (part-set s (becomes e from none m) e none he refl (flag_at s) flag_over (flag-self s y h) 0 refl)
+      (part-kept s (becomes e from None m) e None he refl (ready_at s) ready_over (ready-self s y h) refl)
+      (part-kept s (becomes e from None m) e None he refl (started_at s) started_over (started-self s y h) refl)
+      (part-set s (becomes e from None m) e None he refl (flag_at s) flag_over (flag-self s y h) 0 refl)
       (tail-self s y h ∙ ap (λ (z : Option Pick). m.mask ∷ (pick_mask_over z (get_or s 675 0) ∷ (mtu_of z ∷ []))) c)
 
 -- ---- the mask and the pick

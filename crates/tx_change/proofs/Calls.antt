@@ -3,7 +3,7 @@ use Prim.Native.Nat.{ℕ, ◌/◌, ◌%◌, ◌<◌, ◌≤◌}
 use mathlib.Core.Path.{◌≡◌, refl, sym, ap, ◌∙◌, subst}
 use mathlib.Core.Logic.{◌≢◌}
 use mathlib.Core.List.{List, []}
-use mathlib.Core.Option.{Option, none, some}
+use Rattle.std.specs.Prelude.{Option, None, Some}
 use mathlib.Core.Bool.{Bool, true, false, cond}
 use native.Mathlib.Omega.{arith}
 use lib.Dec.{eqb, ltb}
@@ -80,7 +80,7 @@ module _ (m : TxQueue) (e : ℕ) where
   pub register-new : (r : ℕ) → e ≤ 127 → is_open m.pick ≡ false → is_registered (sets_of m e) ≡ false → register e r m ≡ registers e r m
   register-new r l c q = goes_on m e (register e r m) (registering r) (register-is r) l c ∙ rw q
 
-  pub unregister-is : unregister e m ≡ guarded_known m e (done (Accepted false) (becomes e (place (sets_of m e)) none m))
+  pub unregister-is : unregister e m ≡ guarded_known m e (done (Accepted false) (becomes e (place (sets_of m e)) None m))
   unfolding unregister
   unregister-is = refl
 
@@ -90,16 +90,16 @@ module _ (m : TxQueue) (e : ℕ) where
 
 -- ---- an entry's started set
 
-pub none_open : (o : Option Pick) → is_open o ≡ false → o ≡ none
-none_open none h = refl
-none_open (some p) h = not-both h
+pub none_open : (o : Option Pick) → is_open o ≡ false → o ≡ None
+none_open None h = refl
+none_open (Some p) h = not-both h
 
 pub started-is : (s : List ℕ) (e : ℕ) → e < 128 → is_registered (sets_of (read s) e) ≡ true → started_at s e ≡ started_of (sets_of (read s) e)
 started-is s e l h = sym (ap started_of (sets-at s e l) ∙ rw (not-true (eqb (flag_at s e) 0) (registered-is s e l ∙ h)))
 
 placed-registered : (o : Option Sets) (k : ℕ) → place o ≡ k → k < 16 → is_registered o ≡ true
-placed-registered none k q l = absurd (omega arith)
-placed-registered (some x) k q l = refl
+placed-registered None k q l = absurd (omega arith)
+placed-registered (Some x) k q l = refl
 
 -- ---- a pick
 
@@ -183,7 +183,7 @@ module _ (s : List ℕ) (y : Bytes s) (h : whole_b s ≡ true) (k : ℕ) (l : k 
 -- ---- settling
 
 -- an open pick's bytes
-open_pick : (mask mtu : ℕ) → is_open (pick_of mask mtu) ≡ true → pick_of mask mtu ≡ some (record { mask = mask; mtu = mtu })
+open_pick : (mask mtu : ℕ) → is_open (pick_of mask mtu) ≡ true → pick_of mask mtu ≡ Some (record { mask = mask; mtu = mtu })
 open_pick mask mtu h = rw (not-true (eqb mtu 0) (open_is mask mtu ∙ h))
 
 -- its queue is filled
@@ -221,10 +221,10 @@ module _ (m : TxQueue) (frame : Bool) (r priority length last : ℕ) where
       settle_open = rw (w, p ∙ open_pick mask mtu c, ← q)
 
       pub settle_wrong : frame ≡ true → fits_pick mtu k priority length ≡ false → settle o r m ≡ refuse (Refused 12)
-      settle_wrong f b = settle_open ∙ rw (f, not-false (wrong_frame (some (record { priority = priority; length = length; last = last })) k (record { mask = mask; mtu = mtu })) b)
+      settle_wrong f b = settle_open ∙ rw (f, not-false (wrong_frame (Some (record { priority = priority; length = length; last = last })) k (record { mask = mask; mtu = mtu })) b)
 
       pub settle-framed : frame ≡ true → fits_pick mtu k priority length ≡ true → (eot : Bool) → eot ≡ has last 6 → settle o r m ≡ framed eot r k m
-      settle-framed f b eot z = settle_open ∙ rw (f, not-true (wrong_frame (some (record { priority = priority; length = length; last = last })) k (record { mask = mask; mtu = mtu })) b, z)
+      settle-framed f b eot z = settle_open ∙ rw (f, not-true (wrong_frame (Some (record { priority = priority; length = length; last = last })) k (record { mask = mask; mtu = mtu })) b, z)
 
       pub settle-unframed : frame ≡ false → settle o r m ≡ unframed r k mask m
       settle-unframed f = settle_open ∙ rw f

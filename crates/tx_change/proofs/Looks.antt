@@ -3,7 +3,7 @@ use Prim.Native.Nat.{ℕ, ◌+◌, ◌/◌, ◌<◌, ◌≤◌}
 use mathlib.Core.Path.{◌≡◌, refl, sym, ap, ◌∙◌}
 use mathlib.Core.Logic.{◌≢◌}
 use mathlib.Core.List.{List, [], ◌∷◌}
-use mathlib.Core.Option.{none, some}
+use Rattle.std.specs.Prelude.{None, Some}
 use mathlib.Core.Bool.{Bool, true, false, cond, not, and-false}
 use native.Mathlib.Omega.{arith}
 use lib.Dec.{eqb}
@@ -11,7 +11,7 @@ use lib.ListN.{get_or, set}
 use lib.Seq.{get_or-set_other, set-get_or}
 use borrow.Author.Tests.{lt-ltb, le-ltb, eq-eqb, ne_eqb}
 use Rattle.multi_cycle_list.specs.Lists.{first}
-use Rattle.multi_cycle_list.specs.declared.inner.MaybeEntry.TheVariants.{Some, None}
+use Rattle.multi_cycle_list.specs.declared.inner.MaybeEntry.TheVariants.{Some as SomeEntry, None as NoEntry}
 use Rattle.emcyphal_core.specs.Sets.{has}
 use Rattle.tx_queue.specs.TxQueue.{sets_of}
 use Rattle.tx_queue.specs.Bytes.{ready_at, started_at, flag_at, pick_of, read}
@@ -24,14 +24,14 @@ use Rattle.tx_change.specs.Inner.{with_sets, fits_pick}
 pub open_is : (mask mtu : ℕ) → not (eqb mtu 0) ≡ is_open (pick_of mask mtu)
 open_is mask mtu = go (eqb mtu 0)
   where
-    go : (t : Bool) → not t ≡ is_open (cond t none (some (record { mask = mask; mtu = mtu })))
+    go : (t : Bool) → not t ≡ is_open (cond t None (Some (record { mask = mask; mtu = mtu })))
     go true = refl
     go false = refl
 
 pub registered-is : (s : List ℕ) (e : ℕ) → e < 128 → not (eqb (flag_at s e) 0) ≡ is_registered (sets_of (read s) e)
 registered-is s e l = go (eqb (flag_at s e) 0) ∙ ap is_registered (sym (sets-at s e l))
   where
-    go : (t : Bool) → not t ≡ is_registered (cond t none (some (record { ready = ready_at s e; started = started_at s e })))
+    go : (t : Bool) → not t ≡ is_registered (cond t None (Some (record { ready = ready_at s e; started = started_at s e })))
     go true = refl
     go false = refl
 
@@ -64,11 +64,11 @@ module _ (s : List ℕ) (e ready started : ℕ) where
 
 -- ---- the front
 
-pub front-some : (q : List ℕ) (e : ℕ) → first q ≡ Some e → e ≡ front q
+pub front-some : (q : List ℕ) (e : ℕ) → first q ≡ SomeEntry e → e ≡ front q
 front-some [] e h = absurd (let z : ◌≡◌ {A = ℕ} 0 1 = cc in omega arith)
 front-some (x ∷ q) e h = let z : x ≡ e = cc in sym z
 
-pub front-none : (q : List ℕ) → first q ≡ None → 0 ≡ front q
+pub front-none : (q : List ℕ) → first q ≡ NoEntry → 0 ≡ front q
 front-none [] h = refl
 front-none (x ∷ q) h = absurd (let z : ◌≡◌ {A = ℕ} 0 1 = cc in omega arith)
 

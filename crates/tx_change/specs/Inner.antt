@@ -1,6 +1,5 @@
 -- What the inner functions answer and store, as the code goes. No contract of a public call cites this.
-use Rattle.std.specs.Prelude.{ℕ, ◌+◌, ◌/◌, List, ◌++◌, Bool, cond, not, ◌||◌, eqb, ltb, get_or, set, drop}
-use Rattle.std.proofs.Math.Option.{none}
+use Rattle.std.specs.Prelude.{ℕ, ◌+◌, ◌/◌, List, ◌++◌, Bool, cond, not, ◌||◌, eqb, ltb, get_or, set, drop, None}
 use Rattle.state.specs.Result.{Result}
 use Rattle.multi_cycle_list.specs.Laid as lists
 use Rattle.tx_queue.specs.TxQueue.{TxQueue, sets_of}
@@ -23,7 +22,7 @@ abbrev pub framed : Bool → ℕ → ℕ → TxQueue → Result Answer TxQueue
 framed eot r k m = steps.framed eot r (picked k m) k (started_of (sets_of m (picked k m))) m
 
 abbrev pub unframed : ℕ → ℕ → ℕ → TxQueue → Result Answer TxQueue
-unframed r k mask m = settles none r (picked k m) k (started_of (sets_of m (picked k m))) mask m
+unframed r k mask m = settles None r (picked k m) k (started_of (sets_of m (picked k m))) mask m
 
 abbrev pub fits_pick : ℕ → ℕ → ℕ → ℕ → Bool
 fits_pick mtu k priority length = not (eqb length 0 || (ltb mtu length || not (eqb priority (k / 2))))

@@ -1,8 +1,7 @@
 // What the transmit registries' calls do once the bytes are known whole. Inner functions: other crates call them, and they may have preconditions.
 #![tactic(auto)]
 
-ghost use Rattle.std.specs.Prelude.{◌≡◌, [], true, false, ◌<◌, ◌≤◌, length, get_or, replicate};
-ghost use Rattle.std.proofs.Math.Option.{none};
+ghost use Rattle.std.specs.Prelude.{◌≡◌, [], true, false, ◌<◌, ◌≤◌, length, get_or, replicate, None};
 ghost use Rattle.state.specs.Result.{answer};
 ghost use Rattle.tx_queue.specs.TxQueue as queue;
 ghost use Rattle.tx_queue.specs.TxQueue.{sets_of, filled, fresh};
@@ -96,8 +95,8 @@ pub fn becomes(s: &mut [u8], entry: u8, from: u8, ready: u8, started: u8) -> boo
 }
 
 pub fn leave(s: &mut [u8], entry: u8)
-    requires { (whole_b s.old ≡ true) × ((entry < 128) × ((read s.old).pick ≡ none)) }
-    ensures { s.new ≡ laid (becomes «entry» (queue.place (sets_of (read s.old) «entry»)) none (read s.old)) s.old }
+    requires { (whole_b s.old ≡ true) × ((entry < 128) × ((read s.old).pick ≡ None)) }
+    ensures { s.new ≡ laid (becomes «entry» (queue.place (sets_of (read s.old) «entry»)) None (read s.old)) s.old }
 {
     inner_remove(&mut s[0..290], entry as usize);
     s[546 + entry as usize] = 0;

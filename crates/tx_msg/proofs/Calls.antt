@@ -3,7 +3,7 @@ use Prim.Native.Nat.{ℕ, ◌+◌, ◌<◌, ◌≤◌}
 use mathlib.Core.Path.{◌≡◌, refl, sym, ap, ◌∙◌}
 use mathlib.Core.Logic.{◌≢◌}
 use mathlib.Core.List.{List, []}
-use mathlib.Core.Option.{Option, none, some}
+use Rattle.std.specs.Prelude.{Option, None, Some}
 use mathlib.Core.Bool.{Bool, true, false}
 use native.Mathlib.Omega.{arith}
 use lib.ListN.{length, take, drop, length-drop, replicate, length-replicate, get_or-replicate}
@@ -127,12 +127,12 @@ module _ (s : List ℕ) (h : whole_b s ≡ true) where
     pub whole-then : queue.whole_b (queue_part (after p)) ≡ true
     whole-then = ap queue.whole_b queue-then ∙ W.queue
 
-    pub no-pick : is_open m.queue.pick ≡ false → (queue.read (queue_part (after p))).pick ≡ none
+    pub no-pick : is_open m.queue.pick ≡ false → (queue.read (queue_part (after p))).pick ≡ None
     no-pick h = ap (λ (z : List ℕ). (queue.read z).pick) queue-then ∙ closed m.queue.pick h
       where
-        closed : (o : Option Pick) → is_open o ≡ false → o ≡ none
-        closed none q = refl
-        closed (some x) q = not-both q
+        closed : (o : Option Pick) → is_open o ≡ false → o ≡ None
+        closed None q = refl
+        closed (Some x) q = not-both q
 
     both : (l : List Pair) (f : TxQueue → TxQueue) (u : List ℕ) → p ≡ tree.laid l T → length u ≡ length (queue_part (after p)) → u ≡ queue.laid (f (queue.read (queue_part (after p)))) (queue_part (after p))
         → put_mid 385 677 (after p) u ≡ laid (record { subjects = l; queue = f m.queue }) s
@@ -220,12 +220,12 @@ module _ (s : List ℕ) (h : whole_b s ≡ true) where
 
         pub unregistered : is_open m.queue.pick ≡ false → (p : List ℕ) → length p ≡ length T → p ≡ tree.laid (removed_at i m.subjects) T
             → (u : List ℕ) → length u ≡ length (queue_part (after p))
-            → u ≡ queue.laid (becomes e (place (sets_of (queue.read (queue_part (after p))) e)) none (queue.read (queue_part (after p)))) (queue_part (after p))
+            → u ≡ queue.laid (becomes e (place (sets_of (queue.read (queue_part (after p))) e)) None (queue.read (queue_part (after p)))) (queue_part (after p))
             → Removes (Accepted false) (put_mid 385 677 (after p) u)
         unfolding steps.unregister
         unregistered ho p k a u n b =
             laid_out whole_b read laid (Refused 1) (unregister e) s h (Accepted false)
-            (record { subjects = without e m.subjects; queue = becomes e (place (sets_of m.queue e)) none m.queue })
+            (record { subjects = without e m.subjects; queue = becomes e (place (sets_of m.queue e)) None m.queue })
             (put_mid 385 677 (after p) u)
             (rw (le-ltb 127 e he, ho, hr))
-            (both p k (without e m.subjects) (λ z. becomes e (place (sets_of z e)) none z) u (a ∙ ap (λ (l : List Pair). tree.laid l T) (removed-is T e i qi has-place (F.once e))) n b)
+            (both p k (without e m.subjects) (λ z. becomes e (place (sets_of z e)) None z) u (a ∙ ap (λ (l : List Pair). tree.laid l T) (removed-is T e i qi has-place (F.once e))) n b)

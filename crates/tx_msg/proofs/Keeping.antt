@@ -3,7 +3,7 @@ use Prim.Native.Nat.{ℕ, zero-le, ◌/◌, ◌<◌}
 use mathlib.Core.Path.{◌≡◌, refl, sym, ap, ◌∙◌}
 use mathlib.Core.Logic.{◌≢◌}
 use mathlib.Core.List.{List}
-use mathlib.Core.Option.{Option, none, some}
+use Rattle.std.specs.Prelude.{Option, None, Some}
 use mathlib.Core.Bool.{true, false, not}
 use native.Mathlib.Omega.{arith}
 use native.Mathlib.Decide.{ℕ_discrete}
@@ -43,22 +43,22 @@ module _ (q : TxQueue) (f : valid.Valid q) where
 
   module _ (e from : ℕ) (o : Option Sets) where
     own : e < 128 → sets_of (becomes e from o q) e ≡ o
-    own l = get_or-set_same q.entries e o none (omega (arith, c.entries))
+    own l = get_or-set_same q.entries e o None (omega (arith, c.entries))
 
     other : (x : ℕ) → x ≢ e → sets_of (becomes e from o q) x ≡ sets_of q x
-    other x n = get_or-set_other q.entries e x o none n
+    other x n = get_or-set_other q.entries e x o None n
 
   -- an entry that is registered gets sets
-  becomes-same : (e from : ℕ) (s : Sets) → is_registered (sets_of q e) ≡ true → Same q (becomes e from (some s) q)
+  becomes-same : (e from : ℕ) (s : Sets) → is_registered (sets_of q e) ≡ true → Same q (becomes e from (Some s) q)
   becomes-same e from s t x l = elim (ℕ_discrete x e) [
-    | yes z ↦ rw z (ap is_registered (own e from (some s) (omega arith)) ∙ sym t)
-    | no z ↦ ap is_registered (other e from (some s) x z)
+    | yes z ↦ rw z (ap is_registered (own e from (Some s) (omega arith)) ∙ sym t)
+    | no z ↦ ap is_registered (other e from (Some s) x z)
   ]
 
   -- the entry that a pick names
   requeued : (o : Option Sets) → place o < 16 → is_registered o ≡ true
-  requeued none l = absurd (omega arith)
-  requeued (some s) l = refl
+  requeued None l = absurd (omega arith)
+  requeued (Some s) l = refl
 
   abbrev Keeps : Result Answer TxQueue → Type 0
   Keeps o = Same q (left q o)
@@ -67,14 +67,14 @@ module _ (q : TxQueue) (f : valid.Valid q) where
   as_is e l = refl
 
   settles-same : (o : Option Frame) (r e k t mask : ℕ) → is_registered (sets_of q e) ≡ true → Keeps (settles o r e k t mask q)
-  settles-same none r e k t mask h = becomes-same e k (record { ready = r; started = t }) h
-  settles-same (some g) r e k t mask h = by_cond Keeps (is_eot g)
+  settles-same None r e k t mask h = becomes-same e k (record { ready = r; started = t }) h
+  settles-same (Some g) r e k t mask h = by_cond Keeps (is_eot g)
       (λ _. becomes-same e 16 (record { ready = r; started = sets.without t (k / 2) }) h)
       (λ _. becomes-same e k (record { ready = r; started = queue.inserted t (k / 2) }) h)
 
   settle-same : (o : Option Frame) (r : ℕ) (p : Option Pick) → pick_b q p ≡ true → Keeps (settle_pick o r p q)
-  settle-same o r none h = as_is
-  settle-same o r (some p) h =
+  settle-same o r None h = as_is
+  settle-same o r (Some p) h =
       let k = first_queue p.mask q in
       let e = picked k q in
       let l = ltb-true k 16 (and_r (mtu_b p.mtu) (ltb k 16) h) in
@@ -101,20 +101,20 @@ module _ (q : TxQueue) (f : valid.Valid q) where
 
   -- ---- subjects as an entry joins and leaves
 
-  joins-named : (l : List Pair) → Named l q → (e x from : ℕ) (s : Sets) → Named (inserted (pair e x) l) (becomes e from (some s) q)
+  joins-named : (l : List Pair) → Named l q → (e x from : ℕ) (s : Sets) → Named (inserted (pair e x) l) (becomes e from (Some s) q)
   joins-named l n e x from s y i =
       let k = inserted-count (pair e x) (is_entry y) l in
       elim (compare_eq y e) [
-        | same z t ↦ rw z (ap is_registered (own e from (some s) (omega arith))) ∙ sym (true-any (is_entry y) (inserted (pair e x) l) (omega (arith, k, ap to_nat t)))
+        | same z t ↦ rw z (ap is_registered (own e from (Some s) (omega arith))) ∙ sym (true-any (is_entry y) (inserted (pair e x) l) (omega (arith, k, ap to_nat t)))
         | diff z t ↦
             let u : count (is_entry y) l ≡ count (is_entry y) (inserted (pair e x) l) = omega (arith, k, ap to_nat t) in
-            ap is_registered (other e from (some s) y z) ∙ n y i ∙ ap (ltb 0) u
+            ap is_registered (other e from (Some s) y z) ∙ n y i ∙ ap (ltb 0) u
       ]
 
-  leaves-named : (l : List Pair) → Named l q → (e from : ℕ) → Named (without e l) (becomes e from none q)
+  leaves-named : (l : List Pair) → Named l q → (e from : ℕ) → Named (without e l) (becomes e from None q)
   leaves-named l n e from y i = elim (ℕ_discrete y e) [
-    | yes z ↦ rw z (ap is_registered (own e from none (omega arith)) ∙ sym (false-any (is_entry e) (without e l) (without-count-same e l)))
-    | no z ↦ ap is_registered (other e from none y z) ∙ n y i ∙ ap (ltb 0) (sym (without-count-other e y z l))
+    | yes z ↦ rw z (ap is_registered (own e from None (omega arith)) ∙ sym (false-any (is_entry e) (without e l) (without-count-same e l)))
+    | no z ↦ ap is_registered (other e from None y z) ∙ n y i ∙ ap (ltb 0) (sym (without-count-other e y z l))
   ]
 
 -- ---- the calls
@@ -140,7 +140,7 @@ module _ (m : Registry) (f : Valid m) where
       by_cond (Leaves e) (ltb 127 e) (λ _ _. f) (λ _.
       by_cond (Leaves e) (is_open m.queue.pick) (λ _ _. f) (λ _.
       by_cond (Leaves e) (is_registered (sets_of m.queue e)) (λ _ g. record {
-        whole = of_facts (record { subjects = without e m.subjects; queue = becomes e (place (sets_of m.queue e)) none m.queue }) (record {
+        whole = of_facts (record { subjects = without e m.subjects; queue = becomes e (place (sets_of m.queue e)) None m.queue }) (record {
           queue = g.whole;
           range = without-range e 8191 m.subjects F.range;
           once = without-once e m.subjects F.once;

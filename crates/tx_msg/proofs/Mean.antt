@@ -2,7 +2,7 @@
 use Prim.Native.Nat.{ℕ}
 use mathlib.Core.Path.{◌≡◌, refl, sym, ap, ◌∙◌, subst}
 use mathlib.Core.List.{List}
-use mathlib.Core.Option.{Option, none}
+use Rattle.std.specs.Prelude.{Option, None}
 use mathlib.Core.Bool.{true}
 use native.Mathlib.Omega.{arith}
 use lib.Dec.{eqb}
@@ -93,7 +93,7 @@ module _ (m : Registry) (b : List ℕ) (y : Bytes b) (f : Valid m) (l : length b
 
 fresh-valid : Valid fresh
 fresh-valid = record {
-  whole = of_facts fresh (record { queue = (queue_mean.fresh-valid).whole; range = refl; once = λ e. omega arith; rises = refl; named = λ e l. ap is_registered (get_or-replicate {A = Option Sets} 128 e none none l) });
+  whole = of_facts fresh (record { queue = (queue_mean.fresh-valid).whole; range = refl; once = λ e. omega arith; rises = refl; named = λ e l. ap is_registered (get_or-replicate {A = Option Sets} 128 e None None l) });
   queue = queue_mean.fresh-valid;
 }
 

@@ -1,6 +1,5 @@
 -- The calls of message transmission on its plain meaning: those of the transmit queue, with subjects.
-use Rattle.std.specs.Prelude.{ℕ, ◌<◌, cond, List, ltb}
-use Rattle.std.proofs.Math.Option.{Option}
+use Rattle.std.specs.Prelude.{ℕ, ◌<◌, cond, List, ltb, Option}
 use Rattle.state.specs.Result.{Result, refuse, done}
 use Rattle.entry_tree.specs.Pairs.{Pair, pair, has_subject, without, inserted}
 use Rattle.tx_queue.specs.TxQueue.{TxQueue, sets_of}

@@ -2,7 +2,7 @@
 use Prim.Native.Nat.{ℕ, ◌+◌, ◌*◌, ◌<◌, ◌≤◌}
 use mathlib.Core.Path.{◌≡◌, ◌∙◌}
 use mathlib.Core.Logic.{◌≢◌}
-use mathlib.Core.Option.{Option, none, some}
+use Rattle.std.specs.Prelude.{Option, None, Some}
 use mathlib.Core.List.{List, []}
 use mathlib.Core.Bool.{Bool, true, false, cond}
 use native.Mathlib.Omega.{arith}
@@ -20,7 +20,7 @@ use Rattle.multi_cycle_list.proofs.Changes.{rows-length}
 use Rattle.emcyphal_core.specs.Priorities.{number}
 use Rattle.emcyphal_core.specs.Sets.{has, first_of}
 use Rattle.emcyphal_core.specs.declared.MaybePriority.{MaybePriority}
-use Rattle.emcyphal_core.specs.declared.MaybePriority.TheVariants.{Some, None}
+use Rattle.emcyphal_core.specs.declared.MaybePriority.TheVariants.{Some as SomePriority, None as NoPriority}
 use Rattle.emcyphal_core.proofs.Laws.{numbered}
 use Rattle.tx_queue.specs.TxQueue as plain
 use Rattle.tx_queue.specs.TxQueue.{Sets, TxQueue, queue_of, place, sets_of, placed_b, pick_b}
@@ -29,21 +29,21 @@ use Rattle.tx_queue.specs.Bytes.{queue_part, sets_at, read, sizes_b, whole_b}
 -- ---- an entry's queue
 
 pub queue-most : (p : MaybePriority) (started : ℕ) → queue_of p started ≤ 16
-queue-most (Some p) started = least (has started (number p))
+queue-most (SomePriority p) started = least (has started (number p))
   where
     least : (b : Bool) → 2 * number p + cond b 0 1 ≤ 16
     least true = omega (arith, (numbered p).0)
     least false = omega (arith, (numbered p).0)
-queue-most None started = omega arith
+queue-most NoPriority started = omega arith
 
 pub place-most : (o : Option Sets) → place o ≤ 16
-place-most none = omega arith
-place-most (some s) = queue-most (first_of s.ready) s.started
+place-most None = omega arith
+place-most (Some s) = queue-most (first_of s.ready) s.started
 
 -- ---- what is read
 
 pub sets-at : (s : List ℕ) (e : ℕ) → e < 128 → sets_of (read s) e ≡ sets_at s e
-sets-at s e l = get_d_each 128 (sets_at s) e none l
+sets-at s e l = get_d_each 128 (sets_at s) e None l
 
 pub entries-long : (s : List ℕ) → length (read s).entries ≡ 128
 entries-long s = length-each 128 (sets_at s)

@@ -4,8 +4,7 @@
 --   546    for each entry, 0 if it is not registered, or any other byte if it is; of one that is not, its sets say nothing
 --   674    the stored wake mask
 --   675    the pick's mask, which says nothing if none is open      676    the pick's mtu, or 0 if none is open
-use Rattle.std.specs.Prelude.{ℕ, ◌+◌, List, [], ◌∷◌, ◌++◌, Bool, cond, ◌&&◌, eqb, length, get_or, take, drop}
-use Rattle.std.proofs.Math.Option.{Option, none, some}
+use Rattle.std.specs.Prelude.{ℕ, ◌+◌, List, [], ◌∷◌, ◌++◌, Bool, cond, ◌&&◌, eqb, length, get_or, take, drop, Option, None, Some}
 use Rattle.state.specs.Lengths.{responses_length}
 use Rattle.state.specs.Seq.{each}
 use Rattle.multi_cycle_list.specs.Nodes as nodes
@@ -26,10 +25,10 @@ abbrev pub flag_at : List ℕ → ℕ → ℕ
 flag_at b e = get_or b (546 + e) 0
 
 abbrev pub sets_at : List ℕ → ℕ → Option Sets
-sets_at b e = cond (eqb (flag_at b e) 0) none (some (record { ready = ready_at b e; started = started_at b e }))
+sets_at b e = cond (eqb (flag_at b e) 0) None (Some (record { ready = ready_at b e; started = started_at b e }))
 
 abbrev pub pick_of : ℕ → ℕ → Option Pick
-pick_of mask mtu = cond (eqb mtu 0) none (some (record { mask = mask; mtu = mtu }))
+pick_of mask mtu = cond (eqb mtu 0) None (Some (record { mask = mask; mtu = mtu }))
 
 abbrev pub read : List ℕ → TxQueue
 read b = record {
@@ -50,24 +49,24 @@ whole_b b = eqb (length b) responses_length && (sizes_b b && (nodes.whole_b (que
 -- ---- the bytes of a meaning, over the old ones: what says nothing stays
 
 abbrev pub ready_over : Option Sets → ℕ → ℕ
-ready_over none v = v
-ready_over (some s) v = s.ready
+ready_over None v = v
+ready_over (Some s) v = s.ready
 
 abbrev pub started_over : Option Sets → ℕ → ℕ
-started_over none v = v
-started_over (some s) v = s.started
+started_over None v = v
+started_over (Some s) v = s.started
 
 abbrev pub flag_over : Option Sets → ℕ → ℕ
-flag_over none v = 0
-flag_over (some s) v = cond (eqb v 0) 1 v
+flag_over None v = 0
+flag_over (Some s) v = cond (eqb v 0) 1 v
 
 abbrev pub pick_mask_over : Option Pick → ℕ → ℕ
-pick_mask_over none v = v
-pick_mask_over (some p) v = p.mask
+pick_mask_over None v = v
+pick_mask_over (Some p) v = p.mask
 
 abbrev pub mtu_of : Option Pick → ℕ
-mtu_of none = 0
-mtu_of (some p) = p.mtu
+mtu_of None = 0
+mtu_of (Some p) = p.mtu
 
 unfoldable pub laid : TxQueue → List ℕ → List ℕ
 laid m b =

@@ -1,6 +1,5 @@
 -- The calls of a transmit registry on its plain meaning, as document 01 has them. Responses have these very calls; messages add subjects.
-use Rattle.std.specs.Prelude.{ℕ, ◌/◌, ◌<◌, List, [], ◌∷◌, Bool, true, false, cond, not, ◌&&◌, ◌||◌, eqb, ltb, get_or, set}
-use Rattle.std.proofs.Math.Option.{Option, none, some}
+use Rattle.std.specs.Prelude.{ℕ, ◌/◌, ◌<◌, List, [], ◌∷◌, Bool, true, false, cond, not, ◌&&◌, ◌||◌, eqb, ltb, get_or, set, Option, None, Some}
 use Rattle.state.specs.Result.{Result, refuse, done}
 use Rattle.multi_cycle_list.specs.Lists.{removed, pushed_back}
 use Rattle.emcyphal_core.specs.Sets.{has, set_of, without, is_empty}
@@ -9,12 +8,12 @@ use Rattle.tx_queue.specs.declared.Answer.{Answer}
 use Rattle.tx_queue.specs.declared.Answer.TheVariants.{Refused, Accepted, Picked, Nothing, Settled}
 
 abbrev pub is_registered : Option Sets → Bool
-is_registered none = false
-is_registered (some s) = true
+is_registered None = false
+is_registered (Some s) = true
 
 abbrev pub is_open : Option Pick → Bool
-is_open none = false
-is_open (some p) = true
+is_open None = false
+is_open (Some p) = true
 
 -- ---- an entry's place
 
@@ -27,20 +26,20 @@ wakes from to mask = ltb to 16 && (not (eqb from to) && has mask (to / 2))
 
 -- the entry e, which stands in the queue `from`, gets the sets o; any pick is over
 abbrev pub becomes : ℕ → ℕ → Option Sets → TxQueue → TxQueue
-becomes e from o m = record { entries = set m.entries e o; queues = requeued from (place o) e m.queues; mask = m.mask; pick = none }
+becomes e from o m = record { entries = set m.entries e o; queues = requeued from (place o) e m.queues; mask = m.mask; pick = None }
 
 abbrev pub with_mask : ℕ → TxQueue → TxQueue
 with_mask mask m = record { entries = m.entries; queues = m.queues; mask = mask; pick = m.pick }
 
 abbrev pub with_pick : Pick → TxQueue → TxQueue
-with_pick p m = record { entries = m.entries; queues = m.queues; mask = m.mask; pick = some p }
+with_pick p m = record { entries = m.entries; queues = m.queues; mask = m.mask; pick = Some p }
 
 abbrev pub sets : ℕ → ℕ → Option Sets
-sets ready started = some (record { ready = ready; started = started })
+sets ready started = Some (record { ready = ready; started = started })
 
 abbrev pub started_of : Option Sets → ℕ
-started_of none = 0
-started_of (some s) = s.started
+started_of None = 0
+started_of (Some s) = s.started
 
 -- ---- registering, removing, new readiness
 
@@ -63,7 +62,7 @@ unfoldable pub unregister : ℕ → TxQueue → Result Answer TxQueue
 unregister e m =
     cond (ltb 127 e) (refuse (Refused 2)) (
     cond (is_open m.pick) (refuse (Refused 10)) (
-    cond (is_registered (sets_of m e)) (done (Accepted false) (becomes e (place (sets_of m e)) none m)) (
+    cond (is_registered (sets_of m e)) (done (Accepted false) (becomes e (place (sets_of m e)) None m)) (
     refuse (Refused 8))))
 
 unfoldable pub update : ℕ → ℕ → TxQueue → Result Answer TxQueue
@@ -102,7 +101,7 @@ pub record Frame : Type 0 where
 
 -- what a settlement reports: a frame, or none, whose numbers are then unread
 abbrev pub reported : Bool → ℕ → ℕ → ℕ → Option Frame
-reported frame priority length last = cond frame (some (record { priority = priority; length = length; last = last })) none
+reported frame priority length last = cond frame (Some (record { priority = priority; length = length; last = last })) None
 
 -- bit 6 of the last byte
 abbrev pub is_eot : Frame → Bool
@@ -121,25 +120,25 @@ framed eot r e k t m =
 
 -- with no frame the pick's mask is stored, after the place is worked out
 abbrev pub settles : Option Frame → ℕ → ℕ → ℕ → ℕ → ℕ → TxQueue → Result Answer TxQueue
-settles none r e k t mask m = done (Settled e (wakes k (place (sets r t)) m.mask)) (with_mask mask (becomes e k (sets r t) m))
-settles (some f) r e k t mask m = framed (is_eot f) r e k t m
+settles None r e k t mask m = done (Settled e (wakes k (place (sets r t)) m.mask)) (with_mask mask (becomes e k (sets r t) m))
+settles (Some f) r e k t mask m = framed (is_eot f) r e k t m
 
 -- a reported frame is empty, longer than the pick's mtu, or of another priority than the picked one
 abbrev pub wrong_frame : Option Frame → ℕ → Pick → Bool
-wrong_frame none k p = false
-wrong_frame (some f) k p = eqb f.length 0 || (ltb p.mtu f.length || not (eqb f.priority (k / 2)))
+wrong_frame None k p = false
+wrong_frame (Some f) k p = eqb f.length 0 || (ltb p.mtu f.length || not (eqb f.priority (k / 2)))
 
 -- the open pick p is of the queue k
 abbrev pub settle_on : Option Frame → ℕ → Pick → ℕ → TxQueue → Result Answer TxQueue
 settle_on f r p k m = cond (wrong_frame f k p) (refuse (Refused 12)) (settles f r (picked k m) k (started_of (sets_of m (picked k m))) p.mask m)
 
 abbrev pub settle_pick : Option Frame → ℕ → Option Pick → TxQueue → Result Answer TxQueue
-settle_pick f r none m = refuse (Refused 11)
-settle_pick f r (some p) m = settle_on f r p (first_queue p.mask m) m
+settle_pick f r None m = refuse (Refused 11)
+settle_pick f r (Some p) m = settle_on f r p (first_queue p.mask m) m
 
 abbrev pub wrong_priority : Option Frame → Bool
-wrong_priority none = false
-wrong_priority (some f) = ltb 7 f.priority
+wrong_priority None = false
+wrong_priority (Some f) = ltb 7 f.priority
 
 unfoldable pub settle : Option Frame → ℕ → TxQueue → Result Answer TxQueue
 settle f r m = cond (wrong_priority f) (refuse (Refused 3)) (settle_pick f r m.pick m)

@@ -1,12 +1,11 @@
 -- The transmit queue in plain words, and when it is whole. Sets of priorities are bytes: priority p is in the set if bit p is set.
-use Rattle.std.specs.Prelude.{ℕ, suc, ◌+◌, ◌*◌, ◌/◌, List, [], ◌∷◌, Bool, true, false, cond, ◌&&◌, ◌||◌, eqb, ltb, length, get_or, replicate}
-use Rattle.std.proofs.Math.Option.{Option, none, some}
+use Rattle.std.specs.Prelude.{ℕ, suc, ◌+◌, ◌*◌, ◌/◌, List, [], ◌∷◌, Bool, true, false, cond, ◌&&◌, ◌||◌, eqb, ltb, length, get_or, replicate, Option, None, Some}
 use Rattle.state.specs.Seq.{all_b, to_nat}
 use Rattle.multi_cycle_list.specs.Lists.{count}
 use Rattle.emcyphal_core.specs.Priorities.{number}
 use Rattle.emcyphal_core.specs.Sets.{has, first_of}
 use Rattle.emcyphal_core.specs.declared.MaybePriority.{MaybePriority}
-use Rattle.emcyphal_core.specs.declared.MaybePriority.TheVariants.{Some, None}
+use Rattle.emcyphal_core.specs.declared.MaybePriority.TheVariants.{Some as SomePriority, None as NoPriority}
 
 -- an entry's readiness set and started set
 pub record Sets : Type 0 where
@@ -28,21 +27,21 @@ pub record TxQueue : Type 0 where
   pub pick : Option Pick
 
 abbrev pub fresh : TxQueue
-fresh = record { entries = replicate 128 none; queues = replicate 16 []; mask = 0; pick = none }
+fresh = record { entries = replicate 128 None; queues = replicate 16 []; mask = 0; pick = None }
 
 -- ---- an entry's queue
 
 abbrev pub queue_of : MaybePriority → ℕ → ℕ
-queue_of (Some p) started = 2 * number p + cond (has started (number p)) 0 1
-queue_of None started = 16
+queue_of (SomePriority p) started = 2 * number p + cond (has started (number p)) 0 1
+queue_of NoPriority started = 16
 
 -- the queue that an entry's sets give, its most urgent ready priority's; 16 if no priority is ready, and if it is not registered
 abbrev pub place : Option Sets → ℕ
-place none = 16
-place (some s) = queue_of (first_of s.ready) s.started
+place None = 16
+place (Some s) = queue_of (first_of s.ready) s.started
 
 abbrev pub sets_of : TxQueue → ℕ → Option Sets
-sets_of m e = get_or m.entries e none
+sets_of m e = get_or m.entries e None
 
 -- ---- the queue that a pick takes
 
@@ -70,8 +69,8 @@ mtu_b mtu = eqb mtu 8 || eqb mtu 64
 
 -- a pick is one that a pick could open on these queues
 abbrev pub pick_b : TxQueue → Option Pick → Bool
-pick_b m none = true
-pick_b m (some p) = mtu_b p.mtu && ltb (first_queue p.mask m) 16
+pick_b m None = true
+pick_b m (Some p) = mtu_b p.mtu && ltb (first_queue p.mask m) 16
 
 unfoldable pub whole_b : TxQueue → Bool
 whole_b m = eqb (length m.entries) 128 && (eqb (length m.queues) 16 && (all_b 128 (placed_b m) && pick_b m m.pick))

@@ -3,7 +3,7 @@ use Prim.Native.Nat.{ℕ, zero, suc, ◌+◌, ◌/◌, ◌<◌, ◌≤◌}
 use mathlib.Core.Path.{◌≡◌, refl, sym, ap, ◌∙◌, subst}
 use mathlib.Core.Logic.{◌≢◌}
 use mathlib.Core.List.{List, [], ◌∷◌}
-use mathlib.Core.Option.{Option, none, some}
+use Rattle.std.specs.Prelude.{Option, None, Some}
 use mathlib.Core.Bool.{Bool, true, false, cond, not, ◌&&◌, ◌||◌}
 use native.Mathlib.Omega.{arith}
 use native.Mathlib.Decide.{ℕ_discrete, dec_lt}
@@ -32,23 +32,23 @@ use Rattle.tx_valid.proofs.Placed.{requeued-long, requeued-same, requeued-other,
 
 -- sets that are bytes, if there are any
 abbrev pub Fits : Option Sets → Type 0
-Fits o = (s : Sets) → o ≡ some s → SetsFit s
+Fits o = (s : Sets) → o ≡ Some s → SetsFit s
 
-pub no-sets : {A : Type 0} (s : Sets) → ◌≡◌ {A = Option Sets} none (some s) → A
+pub no-sets : {A : Type 0} (s : Sets) → ◌≡◌ {A = Option Sets} None (Some s) → A
 no-sets s q = absurd (let z : ◌≡◌ {A = ℕ} 0 1 = cc in omega arith)
 
-pub same-sets : (a s : Sets) → ◌≡◌ {A = Option Sets} (some a) (some s) → a ≡ s
+pub same-sets : (a s : Sets) → ◌≡◌ {A = Option Sets} (Some a) (Some s) → a ≡ s
 same-sets a s q = cc
 
-pub fit_none : Fits none
+pub fit_none : Fits None
 fit_none s q = no-sets s q
 
 pub fit-sets : (r t : ℕ) → r < 256 → t < 256 → Fits (sets r t)
 fit-sets r t hr ht s q = subst (λ (z : Sets). SetsFit z) (same-sets (record { ready = r; started = t }) s q) (record { ready = hr; started = ht })
 
 fit-started : (o : Option Sets) → Fits o → started_of o < 256
-fit-started none f = omega arith
-fit-started (some s) f = (f s refl).started
+fit-started None f = omega arith
+fit-started (Some s) f = (f s refl).started
 
 not-false : (b : Bool) → not b ≡ false → b ≡ true
 not-false true h = refl
@@ -84,8 +84,8 @@ front-inside (e ∷ q) h = elim (dec_lt e 128) [ yes l ↦ l | no l ↦ absurd (
 -- ---- a valid queue
 
 same-pick : (m : TxQueue) (x : ℕ) (o : Option Pick) → pick_b (with_mask x m) o ≡ pick_b m o
-same-pick m x none = refl
-same-pick m x (some p) = refl
+same-pick m x None = refl
+same-pick m x (Some p) = refl
 
 pub mask-valid : (m : TxQueue) → Valid m → (x : ℕ) → x < 256 → Valid (with_mask x m)
 mask-valid m f x h =
@@ -115,10 +115,10 @@ module _ (m : TxQueue) (f : Valid m) where
   -- the entry e stands in the queue `from`, or `from` is 16 and it is placed anew
   module _ (e from : ℕ) (o : Option Sets) (l : e < 128) (s : from < 16 → place (sets_of m e) ≡ from) (g : Fits o) where
     sets_same : sets_of (becomes e from o m) e ≡ o
-    sets_same = get_or-set_same m.entries e o none (omega (arith, c.entries))
+    sets_same = get_or-set_same m.entries e o None (omega (arith, c.entries))
 
     sets-other : (x : ℕ) → x ≢ e → sets_of (becomes e from o m) x ≡ sets_of m x
-    sets-other x n = get_or-set_other m.entries e x o none n
+    sets-other x n = get_or-set_other m.entries e x o None n
 
     placed : (x k : ℕ) → x < 128 → k < 16 → count x (get_or (requeued from (place o) e m.queues) k []) ≡ cond (eqb (place (sets_of (becomes e from o m) x)) k) 1 0
     placed x k h i =
@@ -157,9 +157,9 @@ module _ (m : TxQueue) (f : Valid m) where
 
   -- ---- an open pick
 
-  opens : (o : Option Pick) → pick_b m o ≡ true → (p : Pick) → o ≡ some p → first_queue p.mask m < 16
-  opens none h p q = absurd (let z : ◌≡◌ {A = ℕ} 0 1 = cc in omega arith)
-  opens (some x) h p q =
+  opens : (o : Option Pick) → pick_b m o ≡ true → (p : Pick) → o ≡ Some p → first_queue p.mask m < 16
+  opens None h p q = absurd (let z : ◌≡◌ {A = ℕ} 0 1 = cc in omega arith)
+  opens (Some x) h p q =
       let w : x ≡ p = cc in
       subst (λ (z : Pick). first_queue z.mask m < 16) w (ltb-true (first_queue x.mask m) 16 (and_r (mtu_b x.mtu) (ltb (first_queue x.mask m) 16) h))
 
@@ -194,11 +194,11 @@ module _ (m : TxQueue) (f : Valid m) where
 
   settles-valid : (r : ℕ) → r < 256 → (o : Option Frame) (k : ℕ) → picked k m < 128 → place (sets_of m (picked k m)) ≡ k → (mask : ℕ) → mask < 256
       → Left (settles o r (picked k m) k (started_of (sets_of m (picked k m))) mask m)
-  settles-valid r h none k i s mask x =
+  settles-valid r h None k i s mask x =
       let e = picked k m in
       let t = started_of (sets_of m e) in
       mask-valid (becomes e k (sets r t) m) (becomes-valid e k (sets r t) i (λ _. s) (fit-sets r t h (fit-own e))) mask x
-  settles-valid r h (some frame) k i s mask x =
+  settles-valid r h (Some frame) k i s mask x =
       let e = picked k m in
       let t = started_of (sets_of m e) in
       let w = without t (k / 2) in
@@ -210,8 +210,8 @@ module _ (m : TxQueue) (f : Valid m) where
       (λ _. becomes-valid e k (sets r v) i (λ _. s) (fit-sets r v h (small (λ p. has t p || eqb p (k / 2)))))
 
   settle-valid : (r : ℕ) → r < 256 → (o : Option Frame) (p : Option Pick) → m.pick ≡ p → Left (settle_pick o r p m)
-  settle-valid r h o none q = f
-  settle-valid r h o (some p) q =
+  settle-valid r h o None q = f
+  settle-valid r h o (Some p) q =
       let k = first_queue p.mask m in
       let l = opens m.pick c.pick p q in
       by_cond Left (wrong_frame o k p) {a = refuse (Refused 12)} {b = settles o r (picked k m) k (started_of (sets_of m (picked k m))) p.mask m}
@@ -229,9 +229,9 @@ module _ (m : TxQueue) (f : Valid m) where
   keeps : (k : Call) → Left (step k m)
   unfolding register unregister update pick settle
   keeps (Unregister e) =
-      let o = done (Accepted false) (becomes e (place (sets_of m e)) none m) in
+      let o = done (Accepted false) (becomes e (place (sets_of m e)) None m) in
       guarded e (cond (is_registered (sets_of m e)) o (refuse (Refused 8))) (λ l.
-      by_cond Left (is_registered (sets_of m e)) {a = o} {b = refuse (Refused 8)} (λ _. becomes-valid e (place (sets_of m e)) none (omega arith) (λ _. refl) fit_none) (λ _. f))
+      by_cond Left (is_registered (sets_of m e)) {a = o} {b = refuse (Refused 8)} (λ _. becomes-valid e (place (sets_of m e)) None (omega arith) (λ _. refl) fit_none) (λ _. f))
   keeps (Register e r h) =
       guarded e (cond (is_registered (sets_of m e)) (refuse (Refused 5)) (registers e r m)) (λ l.
       by_cond Left (is_registered (sets_of m e)) {a = refuse (Refused 5)} {b = registers e r m} (λ _. f) (λ _.

@@ -2,7 +2,7 @@
 use Prim.Native.Nat.{ℕ, zero, suc, ◌+◌, ◌<◌}
 use mathlib.Core.Path.{◌≡◌, refl, sym, ap, ◌∙◌, subst}
 use mathlib.Core.List.{List, [], ◌∷◌, ◌++◌}
-use mathlib.Core.Option.{Option, none, some}
+use Rattle.std.specs.Prelude.{Option, None, Some}
 use mathlib.Core.Bool.{true}
 use native.Mathlib.Omega.{arith}
 use native.Mathlib.Decide.{dec_lt}
@@ -38,14 +38,14 @@ use Rattle.tx_valid.proofs.Reading.{sets_on, read-valid, laid_read}
 -- ---- an entry's bytes, and the pick's, as they are laid
 
 sets-back : (o : Option Sets) (v r t : ℕ) → sets_on (flag_over o v) (ready_over o r) (started_over o t) ≡ o
-sets-back none v r t = refl
-sets-back (some s) zero r t = refl
-sets-back (some s) (suc v) r t = let n = ne_eqb (suc v) 0 (omega arith) in rw (n, n)
+sets-back None v r t = refl
+sets-back (Some s) zero r t = refl
+sets-back (Some s) (suc v) r t = let n = ne_eqb (suc v) 0 (omega arith) in rw (n, n)
 
 -- the mtu of a pick is not 0
 pick-back : (m : TxQueue) (o : Option Pick) (x : ℕ) → pick_b m o ≡ true → pick_of (pick_mask_over o x) (mtu_of o) ≡ o
-pick-back m none x h = refl
-pick-back m (some p) x h = rw (ne_eqb p.mtu 0 (not-zero p.mtu (and_l (mtu_b p.mtu) (ltb (first_queue p.mask m) 16) h)))
+pick-back m None x h = refl
+pick-back m (Some p) x h = rw (ne_eqb p.mtu 0 (not-zero p.mtu (and_l (mtu_b p.mtu) (ltb (first_queue p.mask m) 16) h)))
   where
     not-zero : (n : ℕ) → mtu_b n ≡ true → n ≡ 0 → ⊥
     not-zero n t z = not-both (sym t ∙ ap mtu_b z)
@@ -63,21 +63,21 @@ bytes_three x y z hx hy hz (suc (suc zero)) = hz
 bytes_three x y z hx hy hz (suc (suc (suc i))) = omega arith
 
 ready-byte : (o : Option Sets) (v : ℕ) → Fits o → v < 256 → ready_over o v < 256
-ready-byte none v f h = h
-ready-byte (some s) v f h = (f s refl).ready
+ready-byte None v f h = h
+ready-byte (Some s) v f h = (f s refl).ready
 
 started-byte : (o : Option Sets) (v : ℕ) → Fits o → v < 256 → started_over o v < 256
-started-byte none v f h = h
-started-byte (some s) v f h = (f s refl).started
+started-byte None v f h = h
+started-byte (Some s) v f h = (f s refl).started
 
 flag-byte : (o : Option Sets) (v : ℕ) → v < 256 → flag_over o v < 256
-flag-byte none v h = omega arith
-flag-byte (some s) zero h = omega arith
-flag-byte (some s) (suc v) h = rw (ne_eqb (suc v) 0 (omega arith)) h
+flag-byte None v h = omega arith
+flag-byte (Some s) zero h = omega arith
+flag-byte (Some s) (suc v) h = rw (ne_eqb (suc v) 0 (omega arith)) h
 
-pick-byte : (o : Option Pick) (x : ℕ) → ((p : Pick) → o ≡ some p → p.mask < 256) → x < 256 → pick_mask_over o x < 256
-pick-byte none x f h = h
-pick-byte (some p) x f h = f p refl
+pick-byte : (o : Option Pick) (x : ℕ) → ((p : Pick) → o ≡ Some p → p.mask < 256) → x < 256 → pick_mask_over o x < 256
+pick-byte None x f h = h
+pick-byte (Some p) x f h = f p refl
 
 pub mtu-most : (n : ℕ) → mtu_b n ≡ true → n < 256
 mtu-most n h =
@@ -87,8 +87,8 @@ mtu-most n h =
     ]
 
 mtu-byte : (m : TxQueue) (o : Option Pick) → pick_b m o ≡ true → mtu_of o < 256
-mtu-byte m none h = omega arith
-mtu-byte m (some p) h = mtu-most p.mtu (and_l (mtu_b p.mtu) (ltb (first_queue p.mask m) 16) h)
+mtu-byte m None h = omega arith
+mtu-byte m (Some p) h = mtu-most p.mtu (and_l (mtu_b p.mtu) (ltb (first_queue p.mask m) 16) h)
 
 -- ---- what is laid reads back
 
@@ -132,7 +132,7 @@ module _ (m : TxQueue) (b : List ℕ) (y : Bytes b) (f : Valid m) (l : length b 
   pub read_laid : read (laid m b) ≡ m
   unfolding t Q R T F W
   read_laid =
-      let e : each 128 (sets_at t) ≡ m.entries = each_same 128 (sets_at t) (sets_of m) sets-laid ∙ ap (λ (n : ℕ). each n (sets_of m)) (sym c.entries) ∙ each_get_d none m.entries in
+      let e : each 128 (sets_at t) ≡ m.entries = each_same 128 (sets_at t) (sets_of m) sets-laid ∙ ap (λ (n : ℕ). each n (sets_of m)) (sym c.entries) ∙ each_get_d None m.entries in
       let r : nodes.lists_of (queue_part t) ≡ m.queues = ap nodes.lists_of (queue-is t Q R T F W j) ∙ ap (λ (x : Lists). x.rows) (lists_laid.read_laid (queue_of m) q) in
       let k : get_or t 674 0 ≡ m.mask = tail_at t Q R T F W j 0 in
       let p : pick_of (get_or t 675 0) (get_or t 676 0) ≡ m.pick = (λ i. pick_of (tail_at t Q R T F W j 1 i) (tail_at t Q R T F W j 2 i)) ∙ pick-back m m.pick (get_or b 675 0) c.pick in
@@ -158,7 +158,7 @@ module _ (m : TxQueue) (b : List ℕ) (y : Bytes b) (f : Valid m) (l : length b 
 
 -- ---- opening
 
-pub none-at : (n e : ℕ) → get_or {A = Option Sets} (replicate n none) e none ≡ none
+pub none-at : (n e : ℕ) → get_or {A = Option Sets} (replicate n None) e None ≡ None
 none-at zero e = refl
 none-at (suc n) zero = refl
 none-at (suc n) (suc e) = none-at n e

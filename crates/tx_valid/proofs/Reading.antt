@@ -3,7 +3,7 @@ use Prim.Native.Nat.{ℕ, zero, suc, ◌+◌, ◌<◌}
 use mathlib.Core.Path.{◌≡◌, refl, sym, ap, ◌∙◌, subst}
 use mathlib.Core.Logic.{◌≢◌}
 use mathlib.Core.List.{List, [], ◌∷◌}
-use mathlib.Core.Option.{Option, none, some}
+use Rattle.std.specs.Prelude.{Option, None, Some}
 use mathlib.Core.Bool.{true, cond}
 use native.Mathlib.Omega.{arith}
 use native.Mathlib.Decide.{dec_lt, ℕ_discrete}
@@ -30,7 +30,7 @@ use Rattle.tx_valid.proofs.Keeping.{Fits, no-sets, fit_none, fit-sets}
 
 -- by the flag v, the sets r and t
 abbrev pub sets_on : ℕ → ℕ → ℕ → Option Sets
-sets_on v r t = cond (eqb v 0) none (some (record { ready = r; started = t }))
+sets_on v r t = cond (eqb v 0) None (Some (record { ready = r; started = t }))
 
 fit_on : (v r t : ℕ) → r < 256 → t < 256 → Fits (sets_on v r t)
 fit_on zero r t hr ht = fit_none
@@ -56,10 +56,10 @@ mtu-own : (x mtu : ℕ) → mtu ≡ mtu_of (pick_of x mtu)
 mtu-own x zero = refl
 mtu-own x (suc mtu) = rw (ne_eqb (suc mtu) 0 (omega arith))
 
-pick-fits : (x mtu : ℕ) → x < 256 → (p : Pick) → pick_of x mtu ≡ some p → p.mask < 256
+pick-fits : (x mtu : ℕ) → x < 256 → (p : Pick) → pick_of x mtu ≡ Some p → p.mask < 256
 pick-fits x zero h p q = absurd (let z : ◌≡◌ {A = ℕ} 0 1 = cc in omega arith)
 pick-fits x (suc mtu) h p q =
-    let w : some (record { mask = x; mtu = suc mtu }) ≡ some p = rw (ne_eqb (suc mtu) 0 (omega arith)) at q in
+    let w : Some (record { mask = x; mtu = suc mtu }) ≡ Some p = rw (ne_eqb (suc mtu) 0 (omega arith)) at q in
     subst (λ (z : Pick). z.mask < 256) (let v : record { mask = x; mtu = suc mtu } ≡ p = cc in v) h
 
 -- ---- whole bytes
@@ -74,7 +74,7 @@ module _ (b : List ℕ) (y : Bytes b) (h : whole_b b ≡ true) where
         inside = λ e k l i. omega (arith, row_count e (read b).queues k, q.inside e (omega (arith, w.entries)));
         sets = λ e s t. elim (dec_lt e 128) [
           | yes l ↦ fit_on (flag_at b e) (ready_at b e) (started_at b e) (y (290 + e)) (y (418 + e)) s (sym (sets-at b e l) ∙ t)
-          | no l ↦ no-sets s (sym (get_or-eq_default (read b).entries none {n = e} (omega (arith, entries-long b))) ∙ t)
+          | no l ↦ no-sets s (sym (get_or-eq_default (read b).entries None {n = e} (omega (arith, entries-long b))) ∙ t)
         ];
         mask = y 674;
         pick = pick-fits (get_or b 675 0) (get_or b 676 0) (y 675);
@@ -113,10 +113,10 @@ module _ (b : List ℕ) (y : Bytes b) (h : whole_b b ≡ true) where
 
 module _ (b : List ℕ) (m : TxQueue) (e : ℕ) (o : Option Sets) (l : e < 128) (n : m.entries ≡ set (read b).entries e o) where
   pub sets-new : sets_of m e ≡ o
-  sets-new = ap (λ (z : List (Option Sets)). get_or z e none) n ∙ get_or-set_same (read b).entries e o none (omega (arith, entries-long b))
+  sets-new = ap (λ (z : List (Option Sets)). get_or z e None) n ∙ get_or-set_same (read b).entries e o None (omega (arith, entries-long b))
 
   pub sets_old : (k : ℕ) → k ≢ e → sets_of m k ≡ sets_of (read b) k
-  sets_old k d = ap (λ (z : List (Option Sets)). get_or z k none) n ∙ get_or-set_other (read b).entries e k o none d
+  sets_old k d = ap (λ (z : List (Option Sets)). get_or z k None) n ∙ get_or-set_other (read b).entries e k o None d
 
   -- a part with the byte x k for each entry k, which `over` lays: the readiness sets, the started sets, the flags
   module _ (x : ℕ → ℕ) (over : Option Sets → ℕ → ℕ) (self : (k : ℕ) → k < 128 → x k ≡ over (sets_of (read b) k) (x k)) where

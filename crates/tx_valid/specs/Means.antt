@@ -1,6 +1,5 @@
 -- What is proved of a transmit queue's bytes and calls, which are the response registry's.
-use Rattle.std.specs.Prelude.{ℕ, ◌<◌, ◌≤◌, ◌≡◌, true, [], get_or, replicate}
-use Rattle.std.proofs.Math.Option.{some}
+use Rattle.std.specs.Prelude.{ℕ, ◌<◌, ◌≤◌, ◌≡◌, true, [], get_or, replicate, Some}
 use Rattle.state.specs.Lengths.{responses_length}
 use Rattle.state.specs.Result.{done, Means}
 use Rattle.multi_cycle_list.specs.Lists.{count}
@@ -21,9 +20,9 @@ pub record SetsFit (s : Sets) : Type 0 where
 pub record Valid (m : TxQueue) : Type 0 where
   pub whole : queue.whole_b m ≡ true
   pub inside : (e k : ℕ) → 128 ≤ e → k < 16 → count e (get_or m.queues k []) ≡ 0
-  pub sets : (e : ℕ) (s : Sets) → sets_of m e ≡ some s → SetsFit s
+  pub sets : (e : ℕ) (s : Sets) → sets_of m e ≡ Some s → SetsFit s
   pub mask : m.mask < 256
-  pub pick : (p : Pick) → m.pick ≡ some p → p.mask < 256
+  pub pick : (p : Pick) → m.pick ≡ Some p → p.mask < 256
 
 abbrev pub Sized : TxQueue → ℕ → Type 0
 Sized m n = n ≡ responses_length

@@ -4,7 +4,7 @@ use mathlib.Core.Path.{ap, ◌∙◌}
 use mathlib.Core.List.{List}
 use lib.ListN.{length}
 use borrow.Rule.Slice.PartMut.{put_mid, same_len_mid}
-use Rattle.entry_tree.specs.Inner.{walk_at, removed_at}
+use Rattle.entry_tree.specs.Inner.{removed_at}
 use Rattle.entry_tree.specs.Places as tree
 use Rattle.loop_back.specs.Bytes.{tree_part}
 use Rattle.loop_back.proofs.Facts.{whole_of}
@@ -24,10 +24,10 @@ pub slice_bounds-remove-end : goal.slice_bounds-remove-end
 slice_bounds-remove-end c = omega (arith, (whole_of _ c.requires.0).long, c.walk_past.auto.s)
 
 pub remove-requires : goal.remove-requires
-remove-requires c = let q = ap tree_part c.walk_past.ensures ∙ tree_then c.args.s.now c.requires.0 c.args.entry c.args.i c.requires.1.0 c.requires.1.1.0 c.requires.1.1.1 (walk_at c.next_push-w.result) in (ap length q ∙ long_tree _ c.requires.0, (omega (arith, ap tree.size q, few_pairs _ c.requires.0), omega (arith, ap tree.size q, c.requires.1.1.1)))
+remove-requires c = let q = ap tree_part c.walk_past.ensures ∙ tree_then c.args.s.now c.requires.0 c.args.entry c.args.i c.requires.1.0 c.requires.1.1.0 c.requires.1.1.1 c.next_push-w.result in (ap length q ∙ long_tree _ c.requires.0, (omega (arith, ap tree.size q, few_pairs _ c.requires.0), omega (arith, ap tree.size q, c.requires.1.1.1)))
 
 pub shape_of-s : goal.shape_of-s
 shape_of-s c = same_len_mid 0 385 c.walk_past.new.s c.remove.new.t c.remove.auto.t ∙ c.walk_past.auto.s
 
 pub returns : goal.returns
-returns c = ap (λ (t : List ℕ). put_mid 0 385 c.walk_past.new.s t) c.remove.ensures ∙ ap (λ (s : List ℕ). put_mid 0 385 s (tree.laid (removed_at c.args.i (tree.read (tree_part s))) (tree_part s))) c.walk_past.ensures ∙ left c.args.s.now c.requires.0 c.args.entry c.args.i c.requires.1.0 c.requires.1.1.0 c.requires.1.1.1 (walk_at c.next_push-w.result) c.next_push-w.ensures
+returns c = ap (λ (t : List ℕ). put_mid 0 385 c.walk_past.new.s t) c.remove.ensures ∙ ap (λ (s : List ℕ). put_mid 0 385 s (tree.laid (removed_at c.args.i (tree.read (tree_part s))) (tree_part s))) c.walk_past.ensures ∙ left c.args.s.now c.requires.0 c.args.entry c.args.i c.requires.1.0 c.requires.1.1.0 c.requires.1.1.1 c.next_push-w.result c.next_push-w.ensures

@@ -27,4 +27,4 @@ pub set_walk-requires : goal.set_walk-requires
 set_walk-requires c = omega (arith, (whole_of c.args.s.now (sym c.whole.ensures ∙ c.if-whole.true)).long)
 
 pub returns : goal.returns
-returns c = started c.args.s.now (sym c.whole.ensures ∙ c.if-whole.true) (bytes_of c.args.s.now (search rules)) c.args.subject c.if-subject-gt8191.false _ c.start_on-w.ensures _ c.is_at.ensures _ c.set_walk.ensures
+returns c = started c.args.s.now (sym c.whole.ensures ∙ c.if-whole.true) (bytes_of c.args.s.now (search rules)) c.args.subject c.if-subject-gt8191.false _ c.start_on-w.ensures _ c.is_some.ensures _ c.set_walk.ensures

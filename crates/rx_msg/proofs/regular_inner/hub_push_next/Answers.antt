@@ -33,4 +33,4 @@ pub set_walk-requires : goal.set_walk-requires
 set_walk-requires c = omega (arith, (known c.args.s.now (sym c.whole.ensures ∙ c.if-whole.true)).long)
 
 pub returns : goal.returns
-returns c = next-pushed c.args.s.now (bytes_of c.args.s.now (search rules)) (sym c.whole.ensures ∙ c.if-whole.true) _ refl c.if-e-gt127.false _ c.position-i.ensures _ c.next_on-w.ensures _ c.is_at.ensures _ c.set_walk.ensures
+returns c = next-pushed c.args.s.now (bytes_of c.args.s.now (search rules)) (sym c.whole.ensures ∙ c.if-whole.true) _ refl c.if-e-gt127.false _ c.position-i.ensures _ c.next_on-w.ensures _ c.is_some.ensures _ c.set_walk.ensures

@@ -2,100 +2,101 @@
 // states of its own, and writes each answer. Its standard input and output are the Rust's own answers, recorded by oracle/compare.
 #![tactic(auto)]
 
-ghost use Rattle.std.specs.Prelude.{◌≡◌, ◌≤◌, length};
+ghost use Rattle.std.specs.Prelude.{◌<◌};
 
 use gomxeli::{img, iq, lb, leaves, mcq, reg, req, txm, txr};
 use std::io;
-use std::io::Read;
+use std::io::{BufReader, Read};
 
-// The numbers of the line so far, the one being read, and the lengths of the list queue's and the key queue's bytes.
+/// A line so far: its numbers, and which of them is being read.
 #[derive(Clone, Copy)]
 struct Line {
-    op: u64,
-    a: u64,
-    b: u64,
-    c: u64,
-    at: u8,
-    lists: usize,
-    keys: usize,
+    numbers: [u64; 4],
+    at: usize,
+    ghost within: { at < 4 },
 }
 
-fn started(lists: usize, keys: usize) -> Line {
-    Line {
-        op: 0,
-        a: 0,
-        b: 0,
-        c: 0,
-        at: 0,
-        lists,
-        keys,
+impl Line {
+    fn new() -> Self {
+        Line {
+            numbers: [0; 4],
+            at: 0,
+        }
+    }
+
+    /// One more digit; a number of more than 12 digits stays as it is.
+    fn digit(&mut self, digit: u8) {
+        let number = &mut self.numbers[self.at];
+        if *number < 1_000_000_000_000 {
+            *number = *number * 10 + u64::from(digit % 10);
+        }
+    }
+
+    /// A blank ends a number, but for the last.
+    fn blank(&mut self) {
+        if self.at < 3 {
+            self.at += 1;
+        }
     }
 }
 
-// One more digit; a number of more than 12 digits stays as it is.
-fn grown(n: u64, digit: u8) -> u64 {
-    if n < 1_000_000_000_000 {
-        return n * 10 + ((digit % 10) as u64);
-    }
-    n
+/// A call's code, and the low 32 bits of its numbers.
+#[derive(Clone, Copy)]
+struct Call {
+    code: u64,
+    a: u32,
+    b: u32,
+    c: u32,
 }
 
-fn with_digit(line: Line, digit: u8) -> Line {
-    let at = line.at;
-    let mut out = line;
-    match at {
-        0 => out.op = grown(line.op, digit),
-        1 => out.a = grown(line.a, digit),
-        2 => out.b = grown(line.b, digit),
-        _ => out.c = grown(line.c, digit),
-    }
-    out
+fn low32(number: u64) -> u32 {
+    (number % 4_294_967_296) as u32
 }
 
-fn with_blank(line: Line) -> Line {
-    let mut out = line;
-    if out.at < 3 {
-        out.at += 1;
-    }
-    out
+fn low16(number: u32) -> u16 {
+    (number % 65_536) as u16
 }
 
-// A part's length that fits.
-fn cut(n: usize, s: &[u8]) -> usize
-    ensures { result ≤ length s.now }
-{
-    if n <= s.len() {
-        return n;
-    }
-    s.len()
+fn low8(number: u32) -> u8 {
+    (number % 256) as u8
 }
 
-fn low32(n: u64) -> u32 {
-    (n % 4_294_967_296) as u32
-}
-
-fn lists_call(s: &mut [u8], op: u64, a: u32, b: u32) -> u64 {
-    match op {
-        10 => mcq::gomxeli_mcq_open(s, a, b),
-        11 => mcq::gomxeli_mcq_front(s, a),
-        12 => mcq::gomxeli_mcq_back(s, a),
-        13 => mcq::gomxeli_mcq_is_empty(s, a),
-        14 => mcq::gomxeli_mcq_is_front(s, a),
-        15 => mcq::gomxeli_mcq_is_back(s, a),
-        16 => mcq::gomxeli_mcq_remove(s, a),
-        17 => mcq::gomxeli_mcq_move_front(s, a, b),
-        _ => mcq::gomxeli_mcq_move_back(s, a, b),
+impl From<Line> for Call {
+    fn from(line: Line) -> Call {
+        let [code, a, b, c] = line.numbers;
+        Call {
+            code,
+            a: low32(a),
+            b: low32(b),
+            c: low32(c),
+        }
     }
 }
 
-fn keys_call(s: &mut [u8], op: u64, a: u32, b: u32) -> u64 {
-    let key = (a % 65_536) as u16;
-    match op {
-        30 => iq::gomxeli_iq_open(s, a, b),
+// The codes are those of the file of recorded calls, each said in one place only: an enum would say them again.
+
+fn lists_call(s: &mut [u8], call: Call) -> u64 {
+    match call.code {
+        10 => mcq::gomxeli_mcq_open(s, call.a, call.b),
+        11 => mcq::gomxeli_mcq_front(s, call.a),
+        12 => mcq::gomxeli_mcq_back(s, call.a),
+        13 => mcq::gomxeli_mcq_is_empty(s, call.a),
+        14 => mcq::gomxeli_mcq_is_front(s, call.a),
+        15 => mcq::gomxeli_mcq_is_back(s, call.a),
+        16 => mcq::gomxeli_mcq_remove(s, call.a),
+        17 => mcq::gomxeli_mcq_move_front(s, call.a, call.b),
+        _ => mcq::gomxeli_mcq_move_back(s, call.a, call.b),
+    }
+}
+
+fn keys_call(s: &mut [u8], call: Call) -> u64 {
+    let key = low16(call.a);
+    match call.code {
+        30 => iq::gomxeli_iq_open(s, call.a, call.b),
         31 => iq::gomxeli_iq_contains(s, key),
         32 => iq::gomxeli_iq_get(s, key),
-        33 => iq::gomxeli_iq_get_mut(s, key, b),
-        34 => iq::gomxeli_iq_insert(s, key, b),
+        33 => iq::gomxeli_iq_get_mut(s, key, call.b),
+        34 => iq::gomxeli_iq_insert(s, key, call.b),
         35 => iq::gomxeli_iq_remove(s, key),
         36 => iq::gomxeli_iq_front(s),
         37 => iq::gomxeli_iq_back(s),
@@ -105,188 +106,167 @@ fn keys_call(s: &mut [u8], op: u64, a: u32, b: u32) -> u64 {
     }
 }
 
-fn registry_call(s: &mut [u8], op: u64, a: u32, b: u32) -> u64 {
-    match op {
-        60 => reg::gomxeli_reg_open(s, a),
-        61 => reg::gomxeli_reg_register(s, a, b),
-        62 => reg::gomxeli_reg_unregister(s, a),
+fn registry_call(s: &mut [u8], call: Call) -> u64 {
+    match call.code {
+        60 => reg::gomxeli_reg_open(s, call.a),
+        61 => reg::gomxeli_reg_register(s, call.a, call.b),
+        62 => reg::gomxeli_reg_unregister(s, call.a),
         63 => reg::gomxeli_reg_poll_pop(s),
-        64 => reg::gomxeli_reg_hub_push_start(s, a),
+        64 => reg::gomxeli_reg_hub_push_start(s, call.a),
         _ => reg::gomxeli_reg_hub_push_next(s),
     }
 }
 
-fn image_call(s: &mut [u8], op: u64, a: u32, b: u32) -> u64 {
-    match op {
+fn image_call(s: &mut [u8], call: Call) -> u64 {
+    match call.code {
         70 => img::gomxeli_img_open(s),
-        71 => img::gomxeli_img_add_subject(s, a),
-        72 => img::gomxeli_img_remove_subject_range(s, a, b),
-        _ => img::gomxeli_img_has_subject(s, a),
+        71 => img::gomxeli_img_add_subject(s, call.a),
+        72 => img::gomxeli_img_remove_subject_range(s, call.a, call.b),
+        _ => img::gomxeli_img_has_subject(s, call.a),
     }
 }
 
-fn loop_back_call(s: &mut [u8], op: u64, a: u32, b: u32) -> u64 {
-    match op {
+fn loop_back_call(s: &mut [u8], call: Call) -> u64 {
+    match call.code {
         80 => lb::gomxeli_lb_open(s),
-        81 => lb::gomxeli_lb_register(s, a, b),
-        82 => lb::gomxeli_lb_unregister(s, a),
-        83 => lb::gomxeli_lb_hub_push_start(s, a),
+        81 => lb::gomxeli_lb_register(s, call.a, call.b),
+        82 => lb::gomxeli_lb_unregister(s, call.a),
+        83 => lb::gomxeli_lb_hub_push_start(s, call.a),
         _ => lb::gomxeli_lb_hub_push_next(s),
     }
 }
 
-fn requests_call(s: &mut [u8], op: u64, a: u32, b: u32) -> u64 {
-    match op {
+fn requests_call(s: &mut [u8], call: Call) -> u64 {
+    match call.code {
         90 => req::gomxeli_req_open(s),
-        91 => req::gomxeli_req_register(s, a, b),
-        92 => req::gomxeli_req_unregister(s, a),
-        _ => req::gomxeli_req_poll_push(s, a, (b % 256) as u8),
+        91 => req::gomxeli_req_register(s, call.a, call.b),
+        92 => req::gomxeli_req_unregister(s, call.a),
+        _ => req::gomxeli_req_poll_push(s, call.a, low8(call.b)),
     }
 }
 
 // A settlement's frame flag and readiness are one number, and so are its priority and length.
-fn messages_call(s: &mut [u8], op: u64, a: u32, b: u32, c: u32) -> u64 {
-    match op {
+fn messages_call(s: &mut [u8], call: Call) -> u64 {
+    match call.code {
         100 => txm::gomxeli_txm_open(s),
-        101 => txm::gomxeli_txm_register(s, a, b, (c % 256) as u8),
-        102 => txm::gomxeli_txm_unregister(s, a),
-        103 => txm::gomxeli_txm_update(s, a, (b % 256) as u8),
-        104 => txm::gomxeli_txm_pick(s, (a % 256) as u8, b),
+        101 => txm::gomxeli_txm_register(s, call.a, call.b, low8(call.c)),
+        102 => txm::gomxeli_txm_unregister(s, call.a),
+        103 => txm::gomxeli_txm_update(s, call.a, low8(call.b)),
+        104 => txm::gomxeli_txm_pick(s, low8(call.a), call.b),
         _ => txm::gomxeli_txm_settle(
             s,
-            (a / 256 % 256) as u8,
-            (a % 256) as u8,
-            b / 65536,
-            b % 65536,
-            (c % 256) as u8,
+            low8(call.a / 256),
+            low8(call.a),
+            call.b / 65_536,
+            call.b % 65_536,
+            low8(call.c),
         ),
     }
 }
 
-fn responses_call(s: &mut [u8], op: u64, a: u32, b: u32, c: u32) -> u64 {
-    match op {
+fn responses_call(s: &mut [u8], call: Call) -> u64 {
+    match call.code {
         110 => txr::gomxeli_txr_open(s),
-        111 => txr::gomxeli_txr_register(s, a, (b % 256) as u8),
-        112 => txr::gomxeli_txr_unregister(s, a),
-        113 => txr::gomxeli_txr_update(s, a, (b % 256) as u8),
-        114 => txr::gomxeli_txr_pick(s, (a % 256) as u8, b),
+        111 => txr::gomxeli_txr_register(s, call.a, low8(call.b)),
+        112 => txr::gomxeli_txr_unregister(s, call.a),
+        113 => txr::gomxeli_txr_update(s, call.a, low8(call.b)),
+        114 => txr::gomxeli_txr_pick(s, low8(call.a), call.b),
         _ => txr::gomxeli_txr_settle(
             s,
-            (a / 256 % 256) as u8,
-            (a % 256) as u8,
-            b / 65536,
-            b % 65536,
-            (c % 256) as u8,
+            low8(call.a / 256),
+            low8(call.a),
+            call.b / 65_536,
+            call.b % 65_536,
+            low8(call.c),
         ),
     }
 }
 
-// The last of `n` frame bytes is `last`.
-fn frame_call(n: u32, last: u32) -> u64 {
-    let k = (n % 65) as usize;
-    let frame = [(last % 256) as u8; 64];
-    leaves::gomxeli_is_eot_frame(&frame[..k])
+// The last of `a` frame bytes is `b`.
+fn frame_call(call: Call) -> u64 {
+    let frame = [low8(call.b); 64];
+    leaves::gomxeli_is_eot_frame(&frame[..(call.a % 65) as usize])
 }
 
-fn on_lists(lists: &mut [u8], n: usize, op: u64, a: u32, b: u32) -> u64 {
-    let k = cut(n, lists);
-    lists_call(&mut lists[..k], op, a, b)
+/// A state of each kind, those of two kinds with room for the longest and their lengths.
+#[derive(Drop)]
+struct States {
+    lists: [u8; 514],
+    lists_length: usize,
+    keys: [u8; 9979],
+    keys_length: usize,
+    regular: [u8; 1036],
+    image: [u8; 1024],
+    loop_back: [u8; 389],
+    requests: [u8; 385],
+    messages: [u8; 1062],
+    responses: [u8; 677],
 }
 
-fn on_keys(keys: &mut [u8], n: usize, op: u64, a: u32, b: u32) -> u64 {
-    let k = cut(n, keys);
-    keys_call(&mut keys[..k], op, a, b)
-}
-
-// The lengths after the line's call: an opening sets its state's.
-fn with_lengths(line: Line) -> Line {
-    let a = low32(line.a) as usize;
-    let b = low32(line.b) as usize;
-    if line.op == 10 {
-        return started(2 + 2 * (a + b), line.keys);
-    }
-    if line.op == 30 {
-        return started(line.lists, 11 + 8 * b + 4 * ((a + 1) / 4));
-    }
-    started(line.lists, line.keys)
-}
-
-fn write_answer(answer: u64, rt: &impl Print) -> io::Result<()> {
-    println!(rt; "{answer}")
-}
-
-// The states, one after the other: a list queue (514 bytes at most), a key queue (9,979 at most), the regular registry, the image,
-// the loop-back registry, the requests, the two registries of transmission.
-fn answer_of(states: &mut [u8], line: Line, a: u32, b: u32, c: u32) -> u64
-    requires { length states.old ≡ 15066 }
-{
-    match line.op / 10 {
-        1 => on_lists(&mut states[0..514], line.lists, line.op, a, b),
-        3 => on_keys(&mut states[514..10493], line.keys, line.op, a, b),
-        4 => on_keys(&mut states[514..10493], line.keys, line.op, a, b),
-        5 => frame_call(a, b),
-        6 => registry_call(&mut states[10493..11529], line.op, a, b),
-        7 => image_call(&mut states[11529..12553], line.op, a, b),
-        8 => loop_back_call(&mut states[12553..12942], line.op, a, b),
-        9 => requests_call(&mut states[12942..13327], line.op, a, b),
-        10 => messages_call(&mut states[13327..14389], line.op, a, b, c),
-        _ => responses_call(&mut states[14389..15066], line.op, a, b, c),
-    }
-}
-
-// Makes the line's call and writes its answer; the next line begins.
-fn answered(line: Line, states: &mut [u8], rt: &impl Print) -> io::Result<Line>
-    requires { length states.old ≡ 15066 }
-{
-    let a = low32(line.a);
-    let b = low32(line.b);
-    let c = low32(line.c);
-    let out = with_lengths(line);
-    let mut sized = line;
-    sized.lists = out.lists;
-    sized.keys = out.keys;
-    write_answer(answer_of(states, sized, a, b, c), rt)?;
-    Ok(out)
-}
-
-// One more byte of the input.
-fn fed(b: u8, line: Line, states: &mut [u8], rt: &impl Print) -> io::Result<Line>
-    requires { length states.old ≡ 15066 }
-{
-    if b == 10 {
-        return answered(line, states, rt);
-    }
-    if b == 32 {
-        return Ok(with_blank(line));
-    }
-    if b < 48 {
-        return Ok(line);
-    }
-    Ok(with_digit(line, b - 48))
-}
-
-fn fed_all(chunk: &[u8], line: Line, states: &mut [u8], rt: &impl Print) -> io::Result<Line>
-    requires { length states.old ≡ 15066 }
-{
-    let mut out = line;
-    for b in chunk {
-        out = fed(*b, out, states, rt)?;
-    }
-    Ok(out)
-}
-
-// A proved loop has to end, and nothing says that the input does: the turns go up to a number that no run uses up.
-fn main(rt: HostRuntime) -> io::Result<()> {
-    let mut states = [0u8; 15066];
-    let mut chunk = [0u8; 4096];
-    let mut line = started(0, 0);
-    let mut input = rt.stdin();
-    for _ in 0..u64::MAX {
-        let n = input.read(&mut chunk)?;
-        if n == 0 {
-            break;
+impl States {
+    fn new() -> Self {
+        States {
+            lists: [0; 514],
+            lists_length: 0,
+            keys: [0; 9979],
+            keys_length: 0,
+            regular: [0; 1036],
+            image: [0; 1024],
+            loop_back: [0; 389],
+            requests: [0; 385],
+            messages: [0; 1062],
+            responses: [0; 677],
         }
-        line = fed_all(&chunk[..n], line, &mut states, &rt)?;
+    }
+
+    /// An opening sets its state's length.
+    fn sized(&mut self, call: Call) {
+        let a = call.a as usize;
+        let b = call.b as usize;
+        match call.code {
+            10 => self.lists_length = 2 + 2 * (a + b),
+            30 => self.keys_length = 11 + 8 * b + 4 * ((a + 1) / 4),
+            _ => {}
+        }
+    }
+
+    /// The call's answer.
+    fn answer(&mut self, call: Call) -> u64 {
+        self.sized(call);
+        match call.code / 10 {
+            1 => {
+                let length = self.lists_length.min(self.lists.len());
+                lists_call(&mut self.lists[..length], call)
+            }
+            3 | 4 => {
+                let length = self.keys_length.min(self.keys.len());
+                keys_call(&mut self.keys[..length], call)
+            }
+            5 => frame_call(call),
+            6 => registry_call(&mut self.regular, call),
+            7 => image_call(&mut self.image, call),
+            8 => loop_back_call(&mut self.loop_back, call),
+            9 => requests_call(&mut self.requests, call),
+            10 => messages_call(&mut self.messages, call),
+            _ => responses_call(&mut self.responses, call),
+        }
+    }
+}
+
+fn main(rt: HostRuntime) -> io::Result<()> {
+    let mut states = States::new();
+    let mut line = Line::new();
+    for byte in BufReader::new(rt.alloc(), rt.stdin())?.bytes() {
+        match byte? {
+            b'\n' => {
+                let answer = states.answer(line.into());
+                println!(rt; "{answer}")?;
+                line = Line::new();
+            }
+            b' ' => line.blank(),
+            byte if b'0' <= byte => line.digit(byte - b'0'),
+            _ => {}
+        }
     }
     Ok(())
 }

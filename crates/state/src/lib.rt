@@ -1,8 +1,11 @@
 // The lengths of the kinds of state, why a call is refused, and the form that all calls on state bytes share: specs/ has the definitions.
 #![tactic(auto)]
 
-ghost use Rattle.std.specs.Prelude.{◌≡◌, length, replicate};
+ghost use Rattle.std.specs.Prelude.{◌≡◌, ◌<◌, length, replicate};
+ghost use Rattle.state.specs.Refusals.{entry_of, up_to};
 ghost use Rattle.state.specs.Lengths.{Disjoint};
+
+use std::marker::Model;
 
 /// Why a call is refused.
 #[derive(Clone, Copy, Debug, PartialEq, Eq)]
@@ -68,6 +71,56 @@ impl From<Refusal> for u8 {
             Refusal::ValueGone => 16,
             Refusal::NoCall => 17,
         }
+    }
+}
+
+/// A registry's entry: 0 to 127.
+#[derive(Clone, Copy, Debug, PartialEq, Eq)]
+pub struct Entry(u8);
+
+impl Model for Entry {
+    ghost use Rattle.std.specs.Prelude.{ℕ, ◌<◌};
+
+    ghost Value = { ℕ };
+
+    ghost view = { λ e. e.0 };
+
+    ghost invariant = { λ e. e.0 < 128 };
+
+    ghost inverse = { λ n. record { 0 = n } };
+}
+
+impl Entry {
+    pub fn number(self) -> u8
+        ensures same { result ≡ self }
+        ensures small { result < 128 }
+    {
+        self.0
+    }
+}
+
+impl TryFrom<u32> for Entry {
+    type Error = Refusal;
+
+    ghost try_from_gives = { λ number r. r ≡ entry_of number };
+
+    fn try_from(number: u32) -> Result<Self, Refusal> {
+        if 127 < number {
+            Err(Refusal::EntryRange)
+        } else {
+            Ok(Entry(number as u8))
+        }
+    }
+}
+
+/// A number from 0 to `most`.
+pub fn up_to(most: u16, number: u32) -> Result<u16, Refusal>
+    ensures { result ≡ up_to most number }
+{
+    if (most as u32) < number {
+        Err(Refusal::Range)
+    } else {
+        Ok(number as u16)
     }
 }
 

@@ -1,21 +1,20 @@
 -- Laws of priorities and their sets. Assumes nothing.
 use mathlib.Core.Path.{◌≡◌, refl, sym, ap, ◌∙◌}
 use mathlib.Core.Bool.{Bool, true, false, not, ◌&&◌, ◌||◌, cond}
-use Prim.Native.Nat.{ℕ, zero, suc, ◌+◌, ◌-◌, ◌*◌, ◌/◌, ◌%◌, ◌^◌, ◌<◌, ◌≤◌, zero-le}
-use native.Mathlib.Nat.{le_antisymm, le_of_suc-le-suc, pow-succ', div-div-eq-div-mul}
+use mathlib.Core.List.{List, [], ◌∷◌}
+use Prim.Native.Nat.{ℕ, zero, suc, ◌+◌, ◌-◌, ◌*◌, ◌/◌, ◌%◌, ◌^◌, ◌<◌, ◌≤◌}
+use native.Mathlib.Nat.{pow-succ', div-div-eq-div-mul}
 use native.Mathlib.Omega.{arith}
 use lib.Dec.{eqb, leb, ltb, lit<}
 use lib.Bits.{bit_and, bit_or, and_shr, or_shr, and_mod, or_mod, and_lt, or_lt}
-use lib.Count.{count_leading_zeros, count_trailing_zeros, trailing_le}
-use borrow.Author.Tests.{leb-true, le-leb, lt-leb, lt-ltb, ne_eqb}
-use Rattle.emcyphal_core.specs.Priorities.{number, priority_of, maybe_priority, before}
+use borrow.Author.Tests.{eq-eqb}
+use lib.Count.{count_leading_zeros, count_trailing_zeros}
+use Rattle.std.specs.Prelude.{Some, length, filter}
 use Rattle.state.specs.Seq.{all_b, to_nat}
-use Rattle.emcyphal_core.specs.Sets.{has, bits, set_of, without, is_empty, first_in, first_of, last_of, next_of}
+use Rattle.emcyphal_core.specs.Priorities.{priorities, number, priority_of, maybe_priority}
+use Rattle.emcyphal_core.specs.Sets.{has, bits, set_of, without, is_empty, first_in, first_of, last_of, members}
 use Rattle.emcyphal_core.specs.declared.Priority.{Priority}
 use Rattle.emcyphal_core.specs.declared.Priority.TheVariants.{Exceptional, Immediate, Fast, High, Nominal, Low, Slow, Optional}
-use Rattle.emcyphal_core.specs.declared.MaybePriority.{MaybePriority}
-use Rattle.emcyphal_core.specs.declared.MaybePriority.TheVariants.{Some, None}
-use Rattle.emcyphal_core.specs.declared.NextPriority.TheVariants.{Some as Item, None as End}
 use Rattle.emcyphal_core.proofs.Tables.{tab, agree, agree2}
 
 -- priorities and their numbers
@@ -29,28 +28,11 @@ numbered Low = (lit< tt, refl)
 numbered Slow = (lit< tt, refl)
 numbered Optional = (lit< tt, refl)
 
+pub number_below : (p : Priority) → number p < 8
+number_below p = (numbered p).0
+
 pub in_order : (n : ℕ) → n < 8 → number (priority_of n) ≡ n
 in_order = agree 8 _ _ refl
-
--- which priority a test at 7, or at 0, picks
-pub some-priority : (n : ℕ) {p : Priority} → n ≤ 7 → p ≡ priority_of (n % 8) → Some p ≡ maybe_priority n
-some-priority n l q = let e : n % 8 ≡ n = omega arith in rw (le-leb n 7 l, q, e)
-
-pub no-priority : (n : ℕ) → 7 < n → None ≡ maybe_priority n
-no-priority n l = rw (lt-leb n 7 l)
-
-pub some-before : {m n : ℕ} {p : Priority} → n < 8 → m ≡ n → (m ≡ 0 → ⊥) → p ≡ priority_of ((m - 1) % 8) → Some p ≡ before n
-some-before {m} {n} l e z q = rw (← e, lt-ltb 0 m (omega arith)) (some-priority (m - 1) (omega arith) q)
-
-pub no-before : {m n : ℕ} → m ≡ n → m ≡ 0 → None ≡ before n
-no-before e z = rw (← e, z)
-
--- what is below 8 and none of 0 to 6 is 7
-past : {n : ℕ} (k : ℕ) → k ≤ n → (n ≡ k → ⊥) → k + 1 ≤ n
-past k l h = omega arith
-
-pub seven : (n : ℕ) → n < 8 → ((((((Unit {0} × (n ≡ 0 → ⊥)) × (n ≡ 1 → ⊥)) × (n ≡ 2 → ⊥)) × (n ≡ 3 → ⊥)) × (n ≡ 4 → ⊥)) × (n ≡ 5 → ⊥)) × (n ≡ 6 → ⊥) → n ≡ 7
-seven n l r = le_antisymm (le_of_suc-le-suc l) (past 6 (past 5 (past 4 (past 3 (past 2 (past 1 (past 0 zero-le r.0.0.0.0.0.0.1) r.0.0.0.0.0.1) r.0.0.0.0.1) r.0.0.0.1) r.0.0.1) r.0.1) r.1)
 
 -- a number's lowest bit, and those above it
 low : (t : Bool) (r : ℕ) → has (to_nat t + 2 * r) 0 ≡ t
@@ -134,6 +116,16 @@ meet a b i j = set_op bit_and ◌&&◌ and_shr and_mod refl a b (and_lt 8 a b i 
 pub join : (a b : ℕ) → a < 256 → b < 256 → bit_or a b ≡ set_of (λ p. has a p || has b p)
 join a b i j = set_op bit_or ◌||◌ or_shr or_mod refl a b (or_lt 8 a b i j)
 
+pub join_of : (a : ℕ) (f : ℕ → Bool) → a < 256 → bit_or a (set_of f) ≡ set_of (λ p. has a p || f p)
+join_of a f l = of_members ◌||◌ a (set_of f) (bit_or a (set_of f)) f refl (join a (set_of f) l (small f))
+
+-- the complement of the set e, whose members are f
+pub not_of : (f : ℕ → Bool) {e r : ℕ} → e ≡ set_of f → r ≡ set_of (λ p. not (has e p)) → r ≡ set_of (λ p. not (f p))
+not_of f {e} {r} = of_members (λ _ t. not t) 0 e r f
+
+pub without_of : (b q : ℕ) {e d : ℕ} → b < 256 → d < 256 → e ≡ set_of (λ p. eqb p q) → d ≡ set_of (λ p. not (has e p)) → bit_and b d ≡ without b q
+without_of b q {e} {d} l m h k = of_members ◌&&◌ b d (bit_and b d) (λ p. not (eqb p q)) (not_of _ h k) (meet b d l m)
+
 -- tables over all bytes
 pub others : (b : ℕ) → b < 256 → 255 - b ≡ set_of (λ p. not (has b p))
 unfolding bits
@@ -147,29 +139,11 @@ pub least : (b : ℕ) → b < 256 → maybe_priority (count_trailing_zeros 8 b) 
 unfolding count_trailing_zeros first_in
 least = agree 256 _ _ refl
 
-greatest : (b : ℕ) → b < 256 → cond (eqb b 0) None (Some (priority_of ((7 - count_leading_zeros 8 b) % 8))) ≡ last_of b
+pub greatest : (b : ℕ) → b < 256 → maybe_priority ((8 - count_leading_zeros 8 b + 255) % 256) ≡ last_of b
 unfolding count_leading_zeros first_in
 greatest = agree 256 _ _ refl
 
-leading : (b : ℕ) → b < 256 → leb (count_leading_zeros 8 b) (cond (eqb b 0) 8 7) ≡ true
-unfolding count_leading_zeros
-leading = agree 256 _ _ refl
-
--- a set with no member, and one with some
-pub no-greatest : {b : ℕ} → b ≡ 0 → None ≡ last_of b
-no-greatest z = rw z (greatest 0 (lit< tt))
-
-pub some-greatest : {b : ℕ} {p : Priority} → b < 256 → (b ≡ 0 → ⊥) → p ≡ priority_of ((7 - count_leading_zeros 8 b) % 8) → Some p ≡ last_of b
-some-greatest {b} l n q = rw q (rw (ne_eqb b 0 n) at (greatest b l))
-
-pub leading_le : (b : ℕ) → b < 256 → (b ≡ 0 → ⊥) → count_leading_zeros 8 b ≤ 7
-leading_le b l n = leb-true (count_leading_zeros 8 b) 7 (rw (ne_eqb b 0 n) at (leading b l))
-
--- at most eight zeros fit a byte
-pub trailing_fits : (b : ℕ) → count_trailing_zeros 8 b < 256
-trailing_fits b = omega (arith, trailing_le 8 b)
-
--- tables over all priorities: the sets that one gives
+-- tables over all priorities: the sets that one gives, and the complements of these
 pub only : (q : ℕ) → q < 8 → 1 * 2 ^ q % 256 ≡ set_of (λ p. eqb p q)
 unfolding bits
 only = agree 8 _ _ refl
@@ -182,26 +156,43 @@ pub up_to : (q : ℕ) → q < 8 → 255 / 2 ^ (7 - q) ≡ set_of (λ p. leb p q)
 unfolding bits
 up_to = agree 8 _ _ refl
 
--- the complements of these
-pub after : {q e r : ℕ} → q < 8 → e ≡ set_of (λ p. leb p q) → r ≡ set_of (λ p. not (has e p)) → r ≡ set_of (λ p. ltb q p)
+pub after : (q : ℕ) → q < 8 → set_of (λ p. not (leb p q)) ≡ set_of (λ p. ltb q p)
 unfolding bits
-after {q} {e} {r} l h k = of_members (λ _ t. not t) 0 e r (λ p. leb p q) h k ∙ agree 8 (λ q. set_of (λ p. not (leb p q))) (λ q. set_of (λ p. ltb q p)) refl q l
+after = agree 8 _ _ refl
 
-pub ahead : {q e r : ℕ} → q < 8 → e ≡ set_of (λ p. leb q p) → r ≡ set_of (λ p. not (has e p)) → r ≡ set_of (λ p. ltb p q)
+pub ahead : (q : ℕ) → q < 8 → set_of (λ p. not (leb q p)) ≡ set_of (λ p. ltb p q)
 unfolding bits
-ahead {q} {e} {r} l h k = of_members (λ _ t. not t) 0 e r (λ p. leb q p) h k ∙ agree 8 (λ q. set_of (λ p. not (leb q p))) (λ q. set_of (λ p. ltb p q)) refl q l
+ahead = agree 8 _ _ refl
 
--- one member more, and one less
-pub with-member : (b q : ℕ) {e r : ℕ} → e ≡ set_of (λ p. eqb p q) → r ≡ set_of (λ p. has b p || has e p) → r ≡ set_of (λ p. has b p || eqb p q)
-with-member b q {e} {r} h k = of_members ◌||◌ b e r (λ p. eqb p q) h k
+-- a set has fewer members without its first one
+module _ (b : ℕ) (q : Priority) where
+  has_now : Priority → Bool
+  has_now p = has b (number p)
 
-pub without-member : (b q : ℕ) {e d r : ℕ} → e ≡ set_of (λ p. eqb p q) → d ≡ set_of (λ p. not (has e p)) → r ≡ set_of (λ p. has b p && has d p) → r ≡ without b q
-without-member b q {e} {d} {r} h k m = of_members ◌&&◌ b d r (λ p. not (eqb p q)) (of_members (λ _ t. not t) 0 e d (λ p. eqb p q) h k) m
+  has_then : Priority → Bool
+  has_then p = has (without b (number q)) (number p)
 
--- an iterator's step
-pub took : (b : ℕ) {r : ℕ} {p : Priority} {m : MaybePriority} → m ≡ first_of b → m ≡ Some p → r ≡ without b (number p)
-    → Item p (record { residual = record { 0 = r } }) ≡ next_of b
-took b f s h = rw (sym f ∙ s, h)
+  then_now : (p : Priority) → has_then p ≡ has_now p && not (eqb (number p) (number q))
+  unfolding has_now has_then
+  then_now p = member (λ p. has b p && not (eqb p (number q))) (number p) (number_below p)
 
-pub ended : (b : ℕ) {m : MaybePriority} → m ≡ first_of b → m ≡ None → End ≡ next_of b
-ended b f s = rw (sym f ∙ s)
+  no-more : (ps : List Priority) → length (filter has_then ps) ≤ length (filter has_now ps)
+  no-more [] = omega arith
+  no-more (p ∷ ps) = grind (arith, then_now p, no-more ps)
+
+  fewer-by : (t : Bool) (p : Priority) (ps : List Priority) → has_now p ≡ t → cond t (Some p) (first_in b ps) ≡ Some q
+      → (first_in b ps ≡ Some q → length (filter has_then ps) < length (filter has_now ps))
+      → length (filter has_then (p ∷ ps)) < length (filter has_now (p ∷ ps))
+  fewer-by true p ps e h k = let s : p ≡ q = cc in let n : has_then p ≡ false = rw (then_now p, e, s, eq-eqb (number q) (number q) refl) in rw (e, n) (omega (arith, no-more ps))
+  fewer-by false p ps e h k = let n : has_then p ≡ false = rw (then_now p, e) in rw (e, n) (k h)
+
+  fewer-in : (ps : List Priority) → first_in b ps ≡ Some q → length (filter has_then ps) < length (filter has_now ps)
+  unfolding first_in has_now
+  fewer-in [] h = absurd (cc)
+  fewer-in (p ∷ ps) h = fewer-by (has_now p) p ps refl h (fewer-in ps)
+
+pub fewer : (b : ℕ) (q : Priority) → first_of b ≡ Some q → length (members (without b (number q))) < length (members b)
+unfolding has_now has_then
+fewer b q = fewer-in b q priorities
+
+pub ruleset sets = (number_below, meet, join, join_of, others, empty, least, greatest, only, from, up_to, fewer)

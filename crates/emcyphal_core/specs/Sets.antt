@@ -1,12 +1,8 @@
 -- A byte as a set of priorities: p is in the set if bit p is set.
-use Rattle.std.specs.Prelude.{List, [], ◌∷◌, reverse, Bool, not, ◌&&◌, cond, ℕ, zero, suc, ◌+◌, ◌*◌, ◌/◌, ◌%◌, ◌^◌, eqb}
+use Rattle.std.specs.Prelude.{List, [], ◌∷◌, reverse, Bool, not, ◌&&◌, cond, ℕ, zero, suc, ◌+◌, ◌*◌, ◌/◌, ◌%◌, ◌^◌, eqb, Option, Some, None, filter}
 use Rattle.state.specs.Seq.{all_b, to_nat}
 use Rattle.emcyphal_core.specs.Priorities.{priorities, number}
 use Rattle.emcyphal_core.specs.declared.Priority.{Priority}
-use Rattle.emcyphal_core.specs.declared.MaybePriority.{MaybePriority}
-use Rattle.emcyphal_core.specs.declared.MaybePriority.TheVariants.{Some, None}
-use Rattle.emcyphal_core.specs.declared.NextPriority.{NextPriority}
-use Rattle.emcyphal_core.specs.declared.NextPriority.TheVariants.{Some as Item, None as End}
 
 -- bit p of b is set
 abbrev pub has : ℕ → ℕ → Bool
@@ -30,23 +26,27 @@ abbrev pub is_empty : ℕ → Bool
 is_empty b = all_b 8 (λ p. not (has b p))
 
 -- the first of a list that is in the set b
-unfoldable pub first_in : ℕ → List Priority → MaybePriority
+unfoldable pub first_in : ℕ → List Priority → Option Priority
 first_in b [] = None
 first_in b (p ∷ ps) = cond (has b (number p)) (Some p) (first_in b ps)
 
 -- the member with the least number
-abbrev pub first_of : ℕ → MaybePriority
+abbrev pub first_of : ℕ → Option Priority
 first_of b = first_in b priorities
 
 -- the member with the greatest number
-abbrev pub last_of : ℕ → MaybePriority
+abbrev pub last_of : ℕ → Option Priority
 last_of b = first_in b (reverse priorities)
 
 -- a member, and the set without it
-abbrev pub taken : ℕ → MaybePriority → NextPriority
-taken b (Some p) = Item p (record { residual = record { 0 = without b (number p) } })
-taken b None = End
+abbrev pub taken : ℕ → Option Priority → Option Priority × ℕ
+taken b (Some p) = (Some p, without b (number p))
+taken b None = (None, b)
 
 -- what an iterator over b hands out, and what it then has left
-abbrev pub next_of : ℕ → NextPriority
+abbrev pub next_of : ℕ → Option Priority × ℕ
 next_of b = taken b (first_of b)
+
+-- the members, the most urgent first
+abbrev pub members : ℕ → List Priority
+members b = filter (λ p. has b (number p)) priorities

@@ -1,5 +1,6 @@
-use Rattle.emcyphal_core.proofs.Laws.{numbered, after}
+use mathlib.Core.Path.{◌∙◌}
+use Rattle.emcyphal_core.proofs.Laws.{number_below, not_of, after}
 use Rattle.emcyphal_core.proofs.PrioritySet.new_gt.Goals as goal
 
 pub returns : goal.returns
-returns c = after (numbered c.args.priority).0 c.new_le.ensures c.complement.ensures
+returns c = not_of _ c.new_le.ensures c.complement.ensures ∙ after _ (number_below c.args.priority)

@@ -1,5 +1,0 @@
-use mathlib.Core.Path.{refl}
-use Rattle.emcyphal_core.proofs.NodeId.from_u8_truncating.Goals as goal
-
-pub returns : goal.returns
-returns c = refl

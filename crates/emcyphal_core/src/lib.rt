@@ -359,7 +359,7 @@ impl NodeId {
 }
 
 impl From<NodeId> for u8 {
-    ghost from_gives = { λ id n. n ≡ id };
+    ghost from_gives = { λ id n. (n ≡ id) × (n < nodes) };
 
     fn from(value: NodeId) -> Self {
         value.into_u8()
@@ -367,7 +367,7 @@ impl From<NodeId> for u8 {
 }
 
 impl From<NodeId> for usize {
-    ghost from_gives = { λ id n. n ≡ id };
+    ghost from_gives = { λ id n. (n ≡ id) × (n < nodes) };
 
     fn from(value: NodeId) -> Self {
         u8::from(value).into()
@@ -427,7 +427,7 @@ impl SubjectId {
 }
 
 impl From<SubjectId> for u16 {
-    ghost from_gives = { λ id n. n ≡ id };
+    ghost from_gives = { λ id n. (n ≡ id) × (n < subjects) };
 
     fn from(value: SubjectId) -> Self {
         value.into_u16()
@@ -487,7 +487,7 @@ impl ServiceId {
 }
 
 impl From<ServiceId> for u16 {
-    ghost from_gives = { λ id n. n ≡ id };
+    ghost from_gives = { λ id n. (n ≡ id) × (n < services) };
 
     fn from(value: ServiceId) -> Self {
         value.into_u16()
@@ -564,7 +564,7 @@ impl Default for TransferId {
 }
 
 impl From<TransferId> for u8 {
-    ghost from_gives = { λ id n. n ≡ id };
+    ghost from_gives = { λ id n. (n ≡ id) × (n < transfers) };
 
     fn from(value: TransferId) -> Self {
         value.into_u8()

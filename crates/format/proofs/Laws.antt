@@ -16,8 +16,8 @@ abbrev sum : Bool → Bool → Bool → ℕ → ℕ
 sum s e t i = cond s 128 0 + cond e 64 0 + cond t 32 0 + i
 
 -- the byte as the code makes it
-abbrev pub made : Bool → Bool → Bool → ℕ → ℕ
-made s e t i = bit_or (bit_or (bit_or (bool_byte s * 128 % 256) (bool_byte e * 64 % 256)) (bool_byte t * 32 % 256)) i
+abbrev made : Bool → Bool → Bool → ℕ → ℕ
+made s e t i = bit_or (bit_or (bit_or (bool_byte s * 128 % 256) (bool_byte e * 64 % 256)) (bool_byte t * 32 % 256)) (i * 1 % 256)
 
 -- what the byte of an id below 32 shows
 abbrev seen : Bool → Bool → Bool → ℕ → List Bool
@@ -46,8 +46,8 @@ module _ (s e t : Bool) (id : ℕ) where
   pub at-id : tail_byte s e t id % 32 ≡ id % 32
   at-id = eqb-true (tail_byte s e t id % 32) (id % 32) (cc (table s e t (id % 32) (omega arith)))
 
-  pub is_made : made s e t (id % 32) ≡ tail_byte s e t id
-  is_made = eqb-true (made s e t (id % 32)) (tail_byte s e t id) (cc (table s e t (id % 32) (omega arith)))
+  pub is_made : id < 32 → made s e t id ≡ tail_byte s e t id
+  is_made l = let q : id % 32 ≡ id = omega arith in rw q (eqb-true (made s e t id) (sum s e t id) (cc (table s e t id l)))
 
 pub of_fields : (b : ℕ) → b < 256 → tail_byte (has b 7) (has b 6) (has b 5) b ≡ b
 of_fields = agree 256 _ _ refl

@@ -1,9 +1,7 @@
 -- A frame's last byte: bit 7 is start of transfer, bit 6 end of transfer, bit 5 the toggle, bits 4 to 0 the transfer id.
-use Rattle.std.specs.Prelude.{◌≡◌, List, Bool, cond, ℕ, ◌+◌, ◌-◌, ◌%◌, ◌<◌, eqb, length, get_or}
+use Rattle.std.specs.Prelude.{◌≡◌, List, Bool, cond, ℕ, ◌+◌, ◌-◌, ◌%◌, ◌<◌, eqb, length, get_or, Option, Some, None}
 use Rattle.emcyphal_core.specs.Ids.{transfers}
 use Rattle.emcyphal_core.specs.Sets.{has}
-use Rattle.format.specs.declared.MaybeEot.{MaybeEot}
-use Rattle.format.specs.declared.MaybeEot.TheVariants.{Some, None}
 
 abbrev pub tail_byte : Bool → Bool → Bool → ℕ → ℕ
 tail_byte sot eot toggle id = cond sot 128 0 + cond eot 64 0 + cond toggle 32 0 + id % transfers
@@ -17,5 +15,5 @@ pub record Fields : Type 0 where
   pub byte : (b : ℕ) → b < 256 → tail_byte (has b 7) (has b 6) (has b 5) b ≡ b
 
 -- bit 6 of a frame's last byte, none for an empty frame
-abbrev pub eot_frame : List ℕ → MaybeEot
+abbrev pub eot_frame : List ℕ → Option Bool
 eot_frame frame = cond (eqb (length frame) 0) None (Some (has (get_or frame (length frame - 1) 0) 6))

@@ -197,17 +197,13 @@ fn settle_frame(s: &mut [u8], k: u8, readiness: u8, eot: bool) -> Answer
 {
     let e = front(s, k);
     let p = Priority::from_u8_truncating(k / 2);
-    let started = PrioritySet::from_bits(s[418 + e as usize]);
+    let mut started = PrioritySet::from_bits(s[418 + e as usize]);
     if eot {
-        return Answer::Settled(
-            e,
-            becomes(s, e, 16, readiness, started.remove(p).into_bits()),
-        );
+        started.remove(p);
+        return Answer::Settled(e, becomes(s, e, 16, readiness, started.into_bits()));
     }
-    Answer::Settled(
-        e,
-        becomes(s, e, k, readiness, started.insert(p).into_bits()),
-    )
+    started.insert(p);
+    Answer::Settled(e, becomes(s, e, k, readiness, started.into_bits()))
 }
 
 // No frame: the pick's mask is stored after the place is worked out.

@@ -19,8 +19,7 @@ use Rattle.multi_cycle_list.proofs.Meaning.{list_at}
 use Rattle.multi_cycle_list.proofs.Changes.{rows-length}
 use Rattle.emcyphal_core.specs.Priorities.{number}
 use Rattle.emcyphal_core.specs.Sets.{has, first_of}
-use Rattle.emcyphal_core.specs.declared.MaybePriority.{MaybePriority}
-use Rattle.emcyphal_core.specs.declared.MaybePriority.TheVariants.{Some as SomePriority, None as NoPriority}
+use Rattle.emcyphal_core.specs.declared.Priority.{Priority}
 use Rattle.emcyphal_core.proofs.Laws.{numbered}
 use Rattle.tx_queue.specs.TxQueue as plain
 use Rattle.tx_queue.specs.TxQueue.{Sets, TxQueue, queue_of, place, sets_of, placed_b, pick_b}
@@ -28,8 +27,8 @@ use Rattle.tx_queue.specs.Bytes.{queue_part, sets_at, read, sizes_b, whole_b}
 
 -- ---- an entry's queue
 
-pub queue-most : (p : MaybePriority) (started : ℕ) → queue_of p started ≤ 16
-queue-most (SomePriority p) started = least (has started (number p))
+pub queue-most : (p : Option Priority) (started : ℕ) → queue_of p started ≤ 16
+queue-most (Some p) started = least (has started (number p))
   where
     least : (b : Bool) → 2 * number p + cond b 0 1 ≤ 16
     least true = omega (arith, (numbered p).0)

@@ -1,5 +1,5 @@
 -- One law for each return of the functions in src/lib.rt.
-use Prim.Native.Nat.{ℕ, suc, ◌+◌, ◌*◌, ◌/◌, ◌%◌, ◌<◌, ◌≤◌}
+use Prim.Native.Nat.{ℕ, suc, ◌+◌, ◌/◌, ◌%◌, ◌<◌, ◌≤◌}
 use mathlib.Core.Path.{◌≡◌, refl, sym, ap, ◌∙◌}
 use mathlib.Core.Logic.{◌≢◌}
 use mathlib.Core.List.{List, [], ◌∷◌}
@@ -13,37 +13,12 @@ use Rattle.multi_cycle_list.specs.Lists as lists
 use Rattle.multi_cycle_list.specs.Nodes as nodes
 use Rattle.multi_cycle_list.specs.declared.inner.MaybeEntry.{MaybeEntry}
 use Rattle.multi_cycle_list.specs.declared.inner.MaybeEntry.TheVariants as entry
-use Rattle.emcyphal_core.specs.Priorities.{number, priority_of}
 use Rattle.emcyphal_core.specs.Sets.{has, first_of}
-use Rattle.emcyphal_core.specs.declared.Priority.{Priority}
-use Rattle.emcyphal_core.specs.declared.MaybePriority.{MaybePriority}
-use Rattle.emcyphal_core.specs.declared.MaybePriority.TheVariants.{Some, None}
-use Rattle.emcyphal_core.proofs.Laws.{numbered, in_order}
 use Rattle.tx_queue.specs.TxQueue.{queue_of, place, filled, first_from, first_queue, mtu_b, pick_b}
 use Rattle.tx_queue.specs.Bytes.{queue_part, ready_at, started_at, flag_at, sets_at, read, sizes_b}
 use Rattle.tx_queue.proofs.Reading.{queues-long}
 
 -- ---- an entry's queue
-
--- what the first of a set is, as `first` says
-pub first-in : {b r : ℕ} {m n : MaybePriority} → b ≡ r → m ≡ first_of b → m ≡ n → first_of r ≡ n
-first-in q f h = ap first_of (sym q) ∙ sym f ∙ h
-
-module _ {m : MaybePriority} {p : Priority} {n : ℕ} (t : ℕ) (q : m ≡ Some p) (h : n ≡ number p) where
-  pub priority-low : n < 8
-  priority-low = omega (arith, (numbered p).0)
-
-  contained : {b : ℕ} {r v : Bool} → b ≡ t → r ≡ has b (number p) → r ≡ v → has t (number p) ≡ v
-  contained c f g = ap (λ (z : ℕ). has z (number p)) (sym c) ∙ sym f ∙ g
-
-  pub is-started : {b : ℕ} {r : Bool} → b ≡ t → r ≡ has b (number p) → r ≡ true → (2 * n ≡ queue_of m t) × (2 * n ≤ 16)
-  is-started c f g = (rw (q, contained c f g, h) (omega arith), omega (arith, priority-low))
-
-  pub is_finished : {b : ℕ} {r : Bool} → b ≡ t → r ≡ has b (number p) → r ≡ false → (2 * n + 1 ≡ queue_of m t) × (2 * n + 1 ≤ 16)
-  is_finished c f g = (rw (q, contained c f g, h) refl, omega (arith, priority-low))
-
-pub not-ready : {m : MaybePriority} (t : ℕ) → m ≡ None → (16 ≡ queue_of m t) × (16 ≤ 16)
-not-ready t q = (rw q refl, omega arith)
 
 pub no_flag : (s : List ℕ) (e : ℕ) → flag_at s e ≡ 0 → (16 ≡ place (sets_at s e)) × (16 ≤ 16)
 no_flag s e q = (rw (eq-eqb (flag_at s e) 0 q) refl, omega arith)
@@ -52,9 +27,6 @@ pub flagged : (s : List ℕ) (e : ℕ) → flag_at s e ≢ 0 → place (sets_at 
 flagged s e q = rw (ne_eqb (flag_at s e) 0 q)
 
 -- ---- the queue that a pick takes
-
-pub masked : {mask k b : ℕ} {p : Priority} {r : Bool} → k < 16 → b ≡ mask → p ≡ priority_of (k / 2 % 8) → r ≡ has b (number p) → r ≡ has mask (k / 2)
-masked {mask} {k} l q h f = let z : k / 2 % 8 ≡ k / 2 = omega arith in f ∙ rw (q, h, z, in_order (k / 2) (omega arith))
 
 pub has-entry : {e : ℕ} (l : List ℕ) → lists.first l ≡ entry.Some e → true ≡ filled l
 has-entry [] q = sym (ap is_some q)

@@ -1,11 +1,10 @@
 -- The transmit queue in plain words, and when it is whole. Sets of priorities are bytes: priority p is in the set if bit p is set.
-use Rattle.std.specs.Prelude.{ℕ, suc, ◌+◌, ◌*◌, ◌/◌, List, [], ◌∷◌, Bool, true, false, cond, ◌&&◌, ◌||◌, eqb, ltb, length, get_or, replicate, Option, None, Some}
+use Rattle.std.specs.Prelude.{ℕ, suc, ◌+◌, ◌*◌, ◌/◌, List, [], ◌∷◌, Bool, true, false, cond, ◌&&◌, ◌||◌, eqb, ltb, length, get_or, replicate, Option, Some, None}
 use Rattle.state.specs.Seq.{all_b, to_nat}
 use Rattle.multi_cycle_list.specs.Lists.{count}
 use Rattle.emcyphal_core.specs.Priorities.{number}
+use Rattle.emcyphal_core.specs.declared.Priority.{Priority}
 use Rattle.emcyphal_core.specs.Sets.{has, first_of}
-use Rattle.emcyphal_core.specs.declared.MaybePriority.{MaybePriority}
-use Rattle.emcyphal_core.specs.declared.MaybePriority.TheVariants.{Some as SomePriority, None as NoPriority}
 
 -- an entry's readiness set and started set
 pub record Sets : Type 0 where
@@ -31,9 +30,9 @@ fresh = record { entries = replicate 128 None; queues = replicate 16 []; mask = 
 
 -- ---- an entry's queue
 
-abbrev pub queue_of : MaybePriority → ℕ → ℕ
-queue_of (SomePriority p) started = 2 * number p + cond (has started (number p)) 0 1
-queue_of NoPriority started = 16
+abbrev pub queue_of : Option Priority → ℕ → ℕ
+queue_of (Some p) started = 2 * number p + cond (has started (number p)) 0 1
+queue_of None started = 16
 
 -- the queue that an entry's sets give, its most urgent ready priority's; 16 if no priority is ready, and if it is not registered
 abbrev pub place : Option Sets → ℕ

@@ -12,7 +12,7 @@ ghost use Rattle.tx_queue.specs.TxQueue.{queue_of, filled, first_queue, mtu_b, p
 ghost use Rattle.tx_queue.specs.Bytes.{queue_part, sets_at, sizes_b, whole_b, read};
 ghost use Rattle.tx_queue.specs.Inner.{named_b};
 
-use emcyphal_core::{MaybePriority, Priority, PrioritySet};
+use emcyphal_core::{Priority, PrioritySet};
 use multi_cycle_list::inner::{MaybeEntry, inner_front};
 use multi_cycle_list::whole::whole_marked;
 
@@ -35,13 +35,13 @@ pub fn place(ready: u8, started: u8) -> u8
     ensures { (result ≡ queue_of (first_of ready) started) × (result ≤ 16) }
 {
     match PrioritySet::from_bits(ready).first() {
-        MaybePriority::Some(p) => {
+        Some(p) => {
             if PrioritySet::from_bits(started).contains(p) {
                 return 2 * p.into_u8();
             }
             2 * p.into_u8() + 1
         }
-        MaybePriority::None => 16,
+        None => 16,
     }
 }
 

@@ -1,25 +1,12 @@
 -- The 64-bit answers of the exported functions: bits 0 to 7 the number, 8 to 15 what, 16 to 31 the first field, 32 to 63 the second.
 -- The number is 0 where the call is accepted, and else document 01's number of the refusal.
-use Rattle.std.specs.Prelude.{ℕ, ◌+◌, ◌*◌, ◌/◌, ◌%◌, Bool, cond, eqb, leb, Result, Ok, Err}
+use Rattle.std.specs.Prelude.{ℕ, ◌+◌, ◌*◌, ◌/◌, ◌%◌, Bool, cond, eqb, leb, Option, Some, None, Result, Ok, Err}
 use Rattle.state.specs.Seq.{to_nat}
 use Rattle.state.specs.Refusals as refusals
 use Rattle.state.specs.declared.Refusal.{Refusal}
 use Rattle.state.specs.declared.Refusal.TheVariants.{NotTaken}
 use Rattle.emcyphal_core.specs.Priorities as priorities
-use Rattle.emcyphal_core.specs.declared.MaybePriority as priority
-use Rattle.emcyphal_core.specs.declared.MaybePriority.TheVariants as priority-says
-use Rattle.emcyphal_core.specs.declared.NextPriority as next
-use Rattle.emcyphal_core.specs.declared.NextPriority.TheVariants as next-says
-use Rattle.emcyphal_core.specs.declared.MaybeSubjectId as subject
-use Rattle.emcyphal_core.specs.declared.MaybeSubjectId.TheVariants as subject-says
-use Rattle.emcyphal_core.specs.declared.MaybeServiceId as service
-use Rattle.emcyphal_core.specs.declared.MaybeServiceId.TheVariants as service-says
-use Rattle.emcyphal_core.specs.declared.MaybeNodeId as node
-use Rattle.emcyphal_core.specs.declared.MaybeNodeId.TheVariants as node-says
-use Rattle.emcyphal_core.specs.declared.MaybeTransferId as transfer
-use Rattle.emcyphal_core.specs.declared.MaybeTransferId.TheVariants as transfer-says
-use Rattle.format.specs.declared.MaybeEot as eot
-use Rattle.format.specs.declared.MaybeEot.TheVariants as eot-says
+use Rattle.emcyphal_core.specs.declared.Priority.{Priority}
 use Rattle.multi_class_queue.specs.declared.Answer as list
 use Rattle.multi_class_queue.specs.declared.Answer.TheVariants as list-says
 use Rattle.regular.specs.declared.Answer as regular
@@ -124,34 +111,22 @@ transmit_answer transmit-says.Nothing = packed 0 0 0 0
 transmit_answer (transmit-says.Settled e b) = packed 0 (to_nat b) e 0
 
 -- what may be missing: what 1 and the value first, or what 0
-abbrev pub priority_answer : priority.MaybePriority → ℕ
-priority_answer (priority-says.Some p) = packed 0 1 (priorities.number p) 0
-priority_answer priority-says.None = packed 0 0 0 0
+abbrev pub priority_answer : Option Priority → ℕ
+priority_answer (Some p) = packed 0 1 (priorities.number p) 0
+priority_answer None = packed 0 0 0 0
 
-abbrev pub subject_answer : subject.MaybeSubjectId → ℕ
-subject_answer (subject-says.Some i) = packed 0 1 i.0 0
-subject_answer subject-says.None = packed 0 0 0 0
+abbrev pub id_answer : Option ℕ → ℕ
+id_answer (Some id) = packed 0 1 id 0
+id_answer None = packed 0 0 0 0
 
-abbrev pub service_answer : service.MaybeServiceId → ℕ
-service_answer (service-says.Some i) = packed 0 1 i.0 0
-service_answer service-says.None = packed 0 0 0 0
-
-abbrev pub node_answer : node.MaybeNodeId → ℕ
-node_answer (node-says.Some i) = packed 0 1 i.0 0
-node_answer node-says.None = packed 0 0 0 0
-
-abbrev pub transfer_answer : transfer.MaybeTransferId → ℕ
-transfer_answer (transfer-says.Some i) = packed 0 1 i.0 0
-transfer_answer transfer-says.None = packed 0 0 0 0
-
-abbrev pub eot_answer : eot.MaybeEot → ℕ
-eot_answer (eot-says.Some b) = packed 0 1 (to_nat b) 0
-eot_answer eot-says.None = packed 0 0 0 0
+abbrev pub eot_answer : Option Bool → ℕ
+eot_answer (Some b) = packed 0 1 (to_nat b) 0
+eot_answer None = packed 0 0 0 0
 
 -- an iterator's step: the priority first, then the set that is left
-abbrev pub next_answer : next.NextPriority → ℕ
-next_answer (next-says.Some p i) = packed 0 1 (priorities.number p) i.residual.0
-next_answer next-says.None = packed 0 0 0 0
+abbrev pub next_answer : Option Priority × ℕ → ℕ
+next_answer (Some p, rest) = packed 0 1 (priorities.number p) rest
+next_answer (None, rest) = packed 0 0 0 0
 
 -- the answer of a call that takes a priority: 3 where it is above 7
 abbrev pub with_priority : ℕ → ℕ → ℕ

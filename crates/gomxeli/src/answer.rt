@@ -1,12 +1,9 @@
 // Answers as one number each, laid out as specs/Answers.antt has it.
 ghost use Rattle.std.specs.Prelude.{◌≡◌, ℕ};
 ghost use Rattle.state.specs.Seq.{to_nat};
-ghost use Rattle.gomxeli.specs.Answers.{packed, done, flag, answered, list_answer, key_answer, regular_answer, loop_back_answer, request_answer, transmit_answer, priority_answer, subject_answer, service_answer, node_answer, transfer_answer, eot_answer};
+ghost use Rattle.gomxeli.specs.Answers.{packed, done, flag, answered, list_answer, key_answer, regular_answer, loop_back_answer, request_answer, transmit_answer, priority_answer, id_answer, eot_answer};
 
-use emcyphal_core::{
-    MaybeNodeId, MaybePriority, MaybeServiceId, MaybeSubjectId, MaybeTransferId, PrioritySet,
-};
-use format::MaybeEot;
+use emcyphal_core::{Priority, PrioritySet};
 use state::Refusal;
 
 /// What C gets of an answer: one number.
@@ -45,6 +42,7 @@ impl<T: Answer> Answer for Result<T, Refusal> {
     }
 }
 
+#[tactic(auto, unfolding(crate::specs::Answers::packed))]
 pub fn pack(number: u8, what: u8, first: u16, second: u32) -> u64
     ensures { result ≡ packed number what first second }
 {
@@ -64,7 +62,7 @@ pub fn byte_answer(x: u8) -> u64
 }
 
 pub fn set_answer(s: PrioritySet) -> u64
-    ensures { result ≡ packed 0 0 s.0 0 }
+    ensures { result ≡ packed 0 0 s 0 }
 {
     byte_answer(s.into_bits())
 }
@@ -147,56 +145,30 @@ pub fn transmit_answer(a: tx_queue::Answer) -> u64
     }
 }
 
-pub fn priority_answer(a: MaybePriority) -> u64
+pub fn priority_answer(a: Option<Priority>) -> u64
     ensures { result ≡ priority_answer a }
 {
     match a {
-        MaybePriority::Some(p) => pack(0, 1, p.into_u8() as u16, 0),
-        MaybePriority::None => pack(0, 0, 0, 0),
+        Some(p) => pack(0, 1, p.into_u8() as u16, 0),
+        None => pack(0, 0, 0, 0),
     }
 }
 
-pub fn subject_answer(a: MaybeSubjectId) -> u64
-    ensures { result ≡ subject_answer a }
+// An id goes by its number, whatever its kind.
+pub fn id_answer(a: Option<u16>) -> u64
+    ensures { result ≡ id_answer a }
 {
     match a {
-        MaybeSubjectId::Some(i) => pack(0, 1, i.into_u16(), 0),
-        MaybeSubjectId::None => pack(0, 0, 0, 0),
+        Some(id) => pack(0, 1, id, 0),
+        None => pack(0, 0, 0, 0),
     }
 }
 
-pub fn service_answer(a: MaybeServiceId) -> u64
-    ensures { result ≡ service_answer a }
-{
-    match a {
-        MaybeServiceId::Some(i) => pack(0, 1, i.into_u16(), 0),
-        MaybeServiceId::None => pack(0, 0, 0, 0),
-    }
-}
-
-pub fn node_answer(a: MaybeNodeId) -> u64
-    ensures { result ≡ node_answer a }
-{
-    match a {
-        MaybeNodeId::Some(i) => pack(0, 1, i.into_u8() as u16, 0),
-        MaybeNodeId::None => pack(0, 0, 0, 0),
-    }
-}
-
-pub fn transfer_answer(a: MaybeTransferId) -> u64
-    ensures { result ≡ transfer_answer a }
-{
-    match a {
-        MaybeTransferId::Some(i) => pack(0, 1, i.into_u8() as u16, 0),
-        MaybeTransferId::None => pack(0, 0, 0, 0),
-    }
-}
-
-pub fn eot_answer(a: MaybeEot) -> u64
+pub fn eot_answer(a: Option<bool>) -> u64
     ensures { result ≡ eot_answer a }
 {
     match a {
-        MaybeEot::Some(b) => pack(0, 1, b as u16, 0),
-        MaybeEot::None => pack(0, 0, 0, 0),
+        Some(b) => pack(0, 1, b as u16, 0),
+        None => pack(0, 0, 0, 0),
     }
 }

@@ -1,26 +1,21 @@
 // Identifiers, priorities, sets of priorities and the tail byte. A priority above 7 is refused with 3.
 ghost use Rattle.std.specs.Prelude.{◌≡◌, not, ◌&&◌, ◌||◌, ◌+◌, ◌%◌, eqb, leb, ltb};
 ghost use Rattle.state.specs.Seq.{to_nat};
-ghost use Rattle.emcyphal_core.specs.Ids.{nodes, subjects, services, transfers, maybe_node, maybe_subject, maybe_service, maybe_transfer};
+ghost use Rattle.emcyphal_core.specs.Ids.{nodes, subjects, services, transfers, maybe_id};
 ghost use Rattle.emcyphal_core.specs.Priorities.{maybe_priority, before};
 ghost use Rattle.emcyphal_core.specs.Sets.{has, set_of, without, is_empty, first_of, last_of, next_of};
 ghost use Rattle.format.specs.Tail.{tail_byte, eot_frame};
-ghost use Rattle.gomxeli.specs.Answers.{packed, priority_answer, subject_answer, service_answer, node_answer, transfer_answer, eot_answer, next_answer, with_priority};
+ghost use Rattle.gomxeli.specs.Answers.{packed, priority_answer, id_answer, eot_answer, next_answer, with_priority};
 
-use crate::answer::{
-    byte_answer, eot_answer, holds, node_answer, pack, priority_answer, service_answer, set_answer,
-    subject_answer, transfer_answer,
-};
-use emcyphal_core::{
-    MaybePriority, NextPriority, NodeId, Priority, PrioritySet, ServiceId, SubjectId, TransferId,
-};
+use crate::answer::{byte_answer, eot_answer, holds, id_answer, pack, priority_answer, set_answer};
+use emcyphal_core::{NodeId, Priority, PrioritySet, ServiceId, SubjectId, TransferId};
 use format::TailByte;
 
 #[unsafe(no_mangle)]
 pub extern "C" fn gomxeli_subject_id_new(value: u16) -> u64
-    ensures { result ≡ subject_answer (maybe_subject value) }
+    ensures { result ≡ id_answer (maybe_id subjects value) }
 {
-    subject_answer(SubjectId::new(value))
+    id_answer(SubjectId::new(value).map(u16::from))
 }
 
 #[unsafe(no_mangle)]
@@ -32,9 +27,9 @@ pub extern "C" fn gomxeli_subject_id_from_u16_truncating(value: u16) -> u64
 
 #[unsafe(no_mangle)]
 pub extern "C" fn gomxeli_service_id_new(value: u16) -> u64
-    ensures { result ≡ service_answer (maybe_service value) }
+    ensures { result ≡ id_answer (maybe_id services value) }
 {
-    service_answer(ServiceId::new(value))
+    id_answer(ServiceId::new(value).map(u16::from))
 }
 
 #[unsafe(no_mangle)]
@@ -46,9 +41,9 @@ pub extern "C" fn gomxeli_service_id_from_u16_truncating(value: u16) -> u64
 
 #[unsafe(no_mangle)]
 pub extern "C" fn gomxeli_node_id_new(value: u8) -> u64
-    ensures { result ≡ node_answer (maybe_node value) }
+    ensures { result ≡ id_answer (maybe_id nodes value) }
 {
-    node_answer(NodeId::new(value))
+    id_answer(NodeId::new(value).map(u8::from).map(u16::from))
 }
 
 #[unsafe(no_mangle)]
@@ -60,9 +55,9 @@ pub extern "C" fn gomxeli_node_id_from_u8_truncating(value: u8) -> u64
 
 #[unsafe(no_mangle)]
 pub extern "C" fn gomxeli_transfer_id_new(value: u8) -> u64
-    ensures { result ≡ transfer_answer (maybe_transfer value) }
+    ensures { result ≡ id_answer (maybe_id transfers value) }
 {
-    transfer_answer(TransferId::new(value))
+    id_answer(TransferId::new(value).map(u8::from).map(u16::from))
 }
 
 #[unsafe(no_mangle)]
@@ -99,8 +94,8 @@ pub extern "C" fn gomxeli_priority_next(priority: u8) -> u64
     ensures { result ≡ with_priority priority (priority_answer (maybe_priority (priority + 1))) }
 {
     match Priority::try_from_u8(priority) {
-        MaybePriority::Some(p) => priority_answer(p.next()),
-        MaybePriority::None => pack(3, 0, 0, 0),
+        Some(p) => priority_answer(p.next()),
+        None => pack(3, 0, 0, 0),
     }
 }
 
@@ -109,8 +104,8 @@ pub extern "C" fn gomxeli_priority_prev(priority: u8) -> u64
     ensures { result ≡ with_priority priority (priority_answer (before priority)) }
 {
     match Priority::try_from_u8(priority) {
-        MaybePriority::Some(p) => priority_answer(p.prev()),
-        MaybePriority::None => pack(3, 0, 0, 0),
+        Some(p) => priority_answer(p.prev()),
+        None => pack(3, 0, 0, 0),
     }
 }
 
@@ -119,8 +114,8 @@ pub extern "C" fn gomxeli_priority_set_new_eq(priority: u8) -> u64
     ensures { result ≡ with_priority priority (packed 0 0 (set_of (λ p. eqb p priority)) 0) }
 {
     match Priority::try_from_u8(priority) {
-        MaybePriority::Some(p) => set_answer(PrioritySet::new_eq(p)),
-        MaybePriority::None => pack(3, 0, 0, 0),
+        Some(p) => set_answer(PrioritySet::new_eq(p)),
+        None => pack(3, 0, 0, 0),
     }
 }
 
@@ -129,8 +124,8 @@ pub extern "C" fn gomxeli_priority_set_new_ge(priority: u8) -> u64
     ensures { result ≡ with_priority priority (packed 0 0 (set_of (λ p. leb priority p)) 0) }
 {
     match Priority::try_from_u8(priority) {
-        MaybePriority::Some(p) => set_answer(PrioritySet::new_ge(p)),
-        MaybePriority::None => pack(3, 0, 0, 0),
+        Some(p) => set_answer(PrioritySet::new_ge(p)),
+        None => pack(3, 0, 0, 0),
     }
 }
 
@@ -139,8 +134,8 @@ pub extern "C" fn gomxeli_priority_set_new_le(priority: u8) -> u64
     ensures { result ≡ with_priority priority (packed 0 0 (set_of (λ p. leb p priority)) 0) }
 {
     match Priority::try_from_u8(priority) {
-        MaybePriority::Some(p) => set_answer(PrioritySet::new_le(p)),
-        MaybePriority::None => pack(3, 0, 0, 0),
+        Some(p) => set_answer(PrioritySet::new_le(p)),
+        None => pack(3, 0, 0, 0),
     }
 }
 
@@ -149,8 +144,8 @@ pub extern "C" fn gomxeli_priority_set_new_gt(priority: u8) -> u64
     ensures { result ≡ with_priority priority (packed 0 0 (set_of (λ p. ltb priority p)) 0) }
 {
     match Priority::try_from_u8(priority) {
-        MaybePriority::Some(p) => set_answer(PrioritySet::new_gt(p)),
-        MaybePriority::None => pack(3, 0, 0, 0),
+        Some(p) => set_answer(PrioritySet::new_gt(p)),
+        None => pack(3, 0, 0, 0),
     }
 }
 
@@ -159,8 +154,8 @@ pub extern "C" fn gomxeli_priority_set_new_lt(priority: u8) -> u64
     ensures { result ≡ with_priority priority (packed 0 0 (set_of (λ p. ltb p priority)) 0) }
 {
     match Priority::try_from_u8(priority) {
-        MaybePriority::Some(p) => set_answer(PrioritySet::new_lt(p)),
-        MaybePriority::None => pack(3, 0, 0, 0),
+        Some(p) => set_answer(PrioritySet::new_lt(p)),
+        None => pack(3, 0, 0, 0),
     }
 }
 
@@ -169,8 +164,8 @@ pub extern "C" fn gomxeli_priority_set_contains(bits: u8, priority: u8) -> u64
     ensures { result ≡ with_priority priority (packed 0 (to_nat (has bits priority)) 0 0) }
 {
     match Priority::try_from_u8(priority) {
-        MaybePriority::Some(p) => holds(PrioritySet::from_bits(bits).contains(p)),
-        MaybePriority::None => pack(3, 0, 0, 0),
+        Some(p) => holds(PrioritySet::from_bits(bits).contains(p)),
+        None => pack(3, 0, 0, 0),
     }
 }
 
@@ -179,8 +174,12 @@ pub extern "C" fn gomxeli_priority_set_insert(bits: u8, priority: u8) -> u64
     ensures { result ≡ with_priority priority (packed 0 0 (set_of (λ p. has bits p || eqb p priority)) 0) }
 {
     match Priority::try_from_u8(priority) {
-        MaybePriority::Some(p) => set_answer(PrioritySet::from_bits(bits).insert(p)),
-        MaybePriority::None => pack(3, 0, 0, 0),
+        Some(p) => {
+            let mut set = PrioritySet::from_bits(bits);
+            set.insert(p);
+            set_answer(set)
+        }
+        None => pack(3, 0, 0, 0),
     }
 }
 
@@ -189,8 +188,12 @@ pub extern "C" fn gomxeli_priority_set_remove(bits: u8, priority: u8) -> u64
     ensures { result ≡ with_priority priority (packed 0 0 (without bits priority) 0) }
 {
     match Priority::try_from_u8(priority) {
-        MaybePriority::Some(p) => set_answer(PrioritySet::from_bits(bits).remove(p)),
-        MaybePriority::None => pack(3, 0, 0, 0),
+        Some(p) => {
+            let mut set = PrioritySet::from_bits(bits);
+            set.remove(p);
+            set_answer(set)
+        }
+        None => pack(3, 0, 0, 0),
     }
 }
 
@@ -226,35 +229,36 @@ pub extern "C" fn gomxeli_priority_set_complement(bits: u8) -> u64
 pub extern "C" fn gomxeli_priority_set_not(bits: u8) -> u64
     ensures { result ≡ packed 0 0 (set_of (λ p. not (has bits p))) 0 }
 {
-    set_answer(PrioritySet::from_bits(bits).not())
+    set_answer(!PrioritySet::from_bits(bits))
 }
 
 #[unsafe(no_mangle)]
 pub extern "C" fn gomxeli_priority_set_bitand(a: u8, b: u8) -> u64
     ensures { result ≡ packed 0 0 (set_of (λ p. has a p && has b p)) 0 }
 {
-    set_answer(PrioritySet::from_bits(a).bitand(PrioritySet::from_bits(b)))
+    set_answer(PrioritySet::from_bits(a) & PrioritySet::from_bits(b))
 }
 
 #[unsafe(no_mangle)]
 pub extern "C" fn gomxeli_priority_set_bitor(a: u8, b: u8) -> u64
     ensures { result ≡ packed 0 0 (set_of (λ p. has a p || has b p)) 0 }
 {
-    set_answer(PrioritySet::from_bits(a).bitor(PrioritySet::from_bits(b)))
+    set_answer(PrioritySet::from_bits(a) | PrioritySet::from_bits(b))
 }
 
 #[unsafe(no_mangle)]
 pub extern "C" fn gomxeli_priority_set_iter_next(bits: u8) -> u64
     ensures { result ≡ next_answer (next_of bits) }
 {
-    match PrioritySet::from_bits(bits).into_iter().next() {
-        NextPriority::Some(p, rest) => pack(
+    let mut members = PrioritySet::from_bits(bits).into_iter();
+    match members.next() {
+        Some(p) => pack(
             0,
             1,
             p.into_u8() as u16,
-            rest.residual().into_bits() as u32,
+            members.residual().into_bits() as u32,
         ),
-        NextPriority::None => pack(0, 0, 0, 0),
+        None => pack(0, 0, 0, 0),
     }
 }
 

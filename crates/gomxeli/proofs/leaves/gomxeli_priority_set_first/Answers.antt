@@ -1,7 +1,0 @@
-use mathlib.Core.Path.{ap, ◌∙◌}
-use Rattle.emcyphal_core.specs.Sets.{first_of}
-use Rattle.gomxeli.specs.Answers.{priority_answer}
-use Rattle.gomxeli.proofs.leaves.gomxeli_priority_set_first.Goals as goal
-
-pub returns : goal.returns
-returns c = c.priority_answer.ensures ∙ ap priority_answer (c.first.ensures ∙ ap first_of c.from_bits.ensures)

@@ -1,15 +1,15 @@
 // Identifiers, priorities, sets of priorities and the tail byte. A priority above 7 is refused with 3.
 ghost use Rattle.std.specs.Prelude.{◌≡◌, not, ◌&&◌, ◌||◌, ◌+◌, ◌%◌, eqb, leb, ltb};
 ghost use Rattle.state.specs.Seq.{to_nat};
-ghost use Rattle.emcyphal_core.specs.Ids.{nodes, subjects, services, transfers, maybe_node, maybe_subject, maybe_service, maybe_transfer};
+ghost use Rattle.emcyphal_core.specs.Ids.{nodes, subjects, services, transfers, maybe_id};
 ghost use Rattle.emcyphal_core.specs.Priorities.{maybe_priority, before};
 ghost use Rattle.emcyphal_core.specs.Sets.{has, set_of, without, is_empty, first_of, last_of, next_of};
 ghost use Rattle.format.specs.Tail.{tail_byte, eot_frame};
-ghost use Rattle.gomxeli.specs.Answers.{packed, priority_answer, subject_answer, service_answer, node_answer, transfer_answer, eot_answer, next_answer, with_priority};
+ghost use Rattle.gomxeli.specs.Answers.{packed, priority_answer, id_answer, eot_answer, next_answer, with_priority};
 
 #[unsafe(no_mangle)]
 pub extern "C" fn gomxeli_subject_id_new(value: u16) -> u64
-    ensures { result ≡ subject_answer (maybe_subject value) }
+    ensures { result ≡ id_answer (maybe_id subjects value) }
 {
     gomxeli::leaves::gomxeli_subject_id_new(value)
 }
@@ -23,7 +23,7 @@ pub extern "C" fn gomxeli_subject_id_from_u16_truncating(value: u16) -> u64
 
 #[unsafe(no_mangle)]
 pub extern "C" fn gomxeli_service_id_new(value: u16) -> u64
-    ensures { result ≡ service_answer (maybe_service value) }
+    ensures { result ≡ id_answer (maybe_id services value) }
 {
     gomxeli::leaves::gomxeli_service_id_new(value)
 }
@@ -37,7 +37,7 @@ pub extern "C" fn gomxeli_service_id_from_u16_truncating(value: u16) -> u64
 
 #[unsafe(no_mangle)]
 pub extern "C" fn gomxeli_node_id_new(value: u8) -> u64
-    ensures { result ≡ node_answer (maybe_node value) }
+    ensures { result ≡ id_answer (maybe_id nodes value) }
 {
     gomxeli::leaves::gomxeli_node_id_new(value)
 }
@@ -51,7 +51,7 @@ pub extern "C" fn gomxeli_node_id_from_u8_truncating(value: u8) -> u64
 
 #[unsafe(no_mangle)]
 pub extern "C" fn gomxeli_transfer_id_new(value: u8) -> u64
-    ensures { result ≡ transfer_answer (maybe_transfer value) }
+    ensures { result ≡ id_answer (maybe_id transfers value) }
 {
     gomxeli::leaves::gomxeli_transfer_id_new(value)
 }

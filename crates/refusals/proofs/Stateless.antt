@@ -10,25 +10,13 @@ use Rattle.state.specs.Lengths.{image_length}
 use Rattle.state.specs.Outcome.{Outcome}
 use Rattle.state.proofs.Tests.{by_cond}
 use Rattle.filter_image.specs.Image.{Subjects, on_image, opening, add_subject, remove_subject_range, has_subject}
-use Rattle.emcyphal_core.specs.Ids.{maybe_node, maybe_subject, maybe_service, maybe_transfer}
+use Rattle.std.specs.Prelude.{Bool, Option, Some, None}
+use Rattle.emcyphal_core.specs.Ids.{nodes, subjects, services, transfers, maybe_id}
 use Rattle.emcyphal_core.specs.Priorities.{maybe_priority, before}
 use Rattle.emcyphal_core.specs.Sets.{first_of, last_of, next_of}
-use Rattle.emcyphal_core.specs.declared.MaybePriority as priority
-use Rattle.emcyphal_core.specs.declared.MaybePriority.TheVariants as priority-says
-use Rattle.emcyphal_core.specs.declared.NextPriority as next
-use Rattle.emcyphal_core.specs.declared.NextPriority.TheVariants as next-says
-use Rattle.emcyphal_core.specs.declared.MaybeSubjectId as subject
-use Rattle.emcyphal_core.specs.declared.MaybeSubjectId.TheVariants as subject-says
-use Rattle.emcyphal_core.specs.declared.MaybeServiceId as service
-use Rattle.emcyphal_core.specs.declared.MaybeServiceId.TheVariants as service-says
-use Rattle.emcyphal_core.specs.declared.MaybeNodeId as node
-use Rattle.emcyphal_core.specs.declared.MaybeNodeId.TheVariants as node-says
-use Rattle.emcyphal_core.specs.declared.MaybeTransferId as transfer
-use Rattle.emcyphal_core.specs.declared.MaybeTransferId.TheVariants as transfer-says
+use Rattle.emcyphal_core.specs.declared.Priority.{Priority}
 use Rattle.format.specs.Tail.{eot_frame}
-use Rattle.format.specs.declared.MaybeEot as eot
-use Rattle.format.specs.declared.MaybeEot.TheVariants as eot-says
-use Rattle.gomxeli.specs.Answers.{number, done, flag, priority_answer, subject_answer, service_answer, node_answer, transfer_answer, eot_answer, next_answer, with_priority}
+use Rattle.gomxeli.specs.Answers.{number, done, flag, priority_answer, id_answer, eot_answer, next_answer, with_priority}
 use Rattle.gomxeli.proofs.Fields.{refusal_of}
 use Rattle.refusals.specs.Stateless.{ImgOpen, ImgAddSubject, ImgRemoveSubjectRange, ImgHasSubject, LeafCall, leaf, SubjectIdNew, SubjectIdFromU16Truncating, ServiceIdNew, ServiceIdFromU16Truncating, NodeIdNew, NodeIdFromU8Truncating, TransferIdNew, TransferIdFromU8Truncating, TransferIdNext, PriorityTryFromU8, PriorityFromU8Truncating, PriorityNext, PriorityPrev, PrioritySetNewEq, PrioritySetNewGe, PrioritySetNewLe, PrioritySetNewGt, PrioritySetNewLt, PrioritySetFirst, PrioritySetLast, PrioritySetIsEmpty, PrioritySetComplement, PrioritySetNot, PrioritySetIterNext, TailByteSot, TailByteEot, TailByteToggle, TailByteTransferId, PrioritySetContains, PrioritySetInsert, PrioritySetRemove, PrioritySetBitand, PrioritySetBitor, TailByteNew, IsEotFrame}
 use Rattle.refusals.specs.Refusals.{image_refusals}
@@ -58,33 +46,21 @@ has x b = either (ltb 8191 x) (alone 3 refl refl) (on-image (length b) refl (ans
 
 -- ---- the leaves
 
-priority-zero : (o : priority.MaybePriority) → number (priority_answer o) ≡ 0
-priority-zero (priority-says.Some p) = zero_number _ _ _
-priority-zero priority-says.None = zero_number _ _ _
+priority-zero : (o : Option Priority) → number (priority_answer o) ≡ 0
+priority-zero (Some p) = zero_number _ _ _
+priority-zero None = zero_number _ _ _
 
-subject-zero : (o : subject.MaybeSubjectId) → number (subject_answer o) ≡ 0
-subject-zero (subject-says.Some i) = zero_number _ _ _
-subject-zero subject-says.None = zero_number _ _ _
+id-zero : (o : Option ℕ) → number (id_answer o) ≡ 0
+id-zero (Some id) = zero_number _ _ _
+id-zero None = zero_number _ _ _
 
-service_zero : (o : service.MaybeServiceId) → number (service_answer o) ≡ 0
-service_zero (service-says.Some i) = zero_number _ _ _
-service_zero service-says.None = zero_number _ _ _
+eot-zero : (o : Option Bool) → number (eot_answer o) ≡ 0
+eot-zero (Some t) = zero_number _ _ _
+eot-zero None = zero_number _ _ _
 
-node_zero : (o : node.MaybeNodeId) → number (node_answer o) ≡ 0
-node_zero (node-says.Some i) = zero_number _ _ _
-node_zero node-says.None = zero_number _ _ _
-
-transfer_zero : (o : transfer.MaybeTransferId) → number (transfer_answer o) ≡ 0
-transfer_zero (transfer-says.Some i) = zero_number _ _ _
-transfer_zero transfer-says.None = zero_number _ _ _
-
-eot-zero : (o : eot.MaybeEot) → number (eot_answer o) ≡ 0
-eot-zero (eot-says.Some t) = zero_number _ _ _
-eot-zero eot-says.None = zero_number _ _ _
-
-next-zero : (o : next.NextPriority) → number (next_answer o) ≡ 0
-next-zero (next-says.Some p i) = zero_number _ _ _
-next-zero next-says.None = zero_number _ _ _
+next-zero : (o : Option Priority × ℕ) → number (next_answer o) ≡ 0
+next-zero (Some p, rest) = zero_number _ _ _
+next-zero (None, rest) = zero_number _ _ _
 
 abbrev Leaf : ℕ → Type 0
 Leaf a = (number a ≡ 0) ⊎ (a ≡ 3)
@@ -93,13 +69,13 @@ with-priority : (p a : ℕ) → number a ≡ 0 → Leaf (with_priority p a)
 with-priority p a h = by_cond Leaf (leb p 7) (λ t. inl h) (λ t. inr (refusal_of 3))
 
 pub leaves : (c : LeafCall) → Leaf (leaf c)
-leaves (SubjectIdNew value) = inl (subject-zero (maybe_subject value))
+leaves (SubjectIdNew value) = inl (id-zero (maybe_id subjects value))
 leaves (SubjectIdFromU16Truncating value) = inl (zero_number _ _ _)
-leaves (ServiceIdNew value) = inl (service_zero (maybe_service value))
+leaves (ServiceIdNew value) = inl (id-zero (maybe_id services value))
 leaves (ServiceIdFromU16Truncating value) = inl (zero_number _ _ _)
-leaves (NodeIdNew value) = inl (node_zero (maybe_node value))
+leaves (NodeIdNew value) = inl (id-zero (maybe_id nodes value))
 leaves (NodeIdFromU8Truncating value) = inl (zero_number _ _ _)
-leaves (TransferIdNew value) = inl (transfer_zero (maybe_transfer value))
+leaves (TransferIdNew value) = inl (id-zero (maybe_id transfers value))
 leaves (TransferIdFromU8Truncating value) = inl (zero_number _ _ _)
 leaves (TransferIdNext id) = inl (zero_number _ _ _)
 leaves (PriorityTryFromU8 value) = inl (priority-zero (maybe_priority value))

@@ -77,6 +77,7 @@ def rust_of(file, text):
     now = File(file.crate, file.place, text)
     for a, b in sorted(now.ghosts, reverse=True):
         text = text[: now.tokens[a].start] + text[now.tokens[b - 1].end :]
+    text = re.sub(r"#\[derive\(([^)]*)\)\]", lambda found: f"#[derive({', '.join(d for d in found[1].split(', ') if d != 'Drop')})]", text)
     if file.crate == "gomxeli":
         text = text.replace("#[unsafe(no_mangle)]", "")
     if MAIN in text:

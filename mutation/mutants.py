@@ -79,6 +79,8 @@ class Body:
         names = [t.text for t in self.tokens[begin:at]]
         if "(" in names:
             bracket = begin + names.index("(")
+            if self.tokens[bracket - 1].kind != "word" or bracket == begin:
+                return
             path = path_to(self.tokens, bracket - 1)[0]
             cases = self.tree.enum_at(self.file, self.function.owner, path[:-1]) or {}
             for (a, _), kind in zip(parts_of(self.tokens, bracket + 1, at - 1), cases.get(path[-1], [])):
@@ -169,9 +171,20 @@ class Body:
             return [self.edit("operator", at, at, "")]
         if sign not in OPERATORS or not (before.kind in ("word", "number") or before.text in ")]"):
             return []
-        if before.text in ("return", "mut", "match", "if") or not self.can_follow(at, OPERATORS[sign]):
+        if before.text in ("return", "mut", "match", "if", "in", "else") or not self.can_follow(at, OPERATORS[sign]):
+            return []
+        if sign == "|" and self.ends_parameters(at):
             return []
         return [self.edit("operator", at, at, OPERATORS[sign])]
+
+    def ends_parameters(self, at):
+        """Whether the bar closes the parameters of a closure."""
+        for i in range(at - 1, self.function.start, -1):
+            if self.tokens[i].text == "|":
+                return self.tokens[i - 1].text in "(,=" or self.tokens[i - 1].text == "move"
+            if self.tokens[i].text in (";", "{", "}"):
+                return False
+        return False
 
     def number(self, at):
         token = self.tokens[at]

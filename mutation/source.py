@@ -100,16 +100,62 @@ def spelt(tokens):
     return " ".join(token.text for token in tokens)
 
 
-class Function:
-    """A function: where it stands, its parameters and result by type, and the tokens of its body."""
+def past_types(tokens, at):
+    """Past the parameters `<..>` of a function or an impl, if it has any."""
+    if tokens[at].text != "<":
+        return at
+    depth = 0
+    while True:
+        depth += {"<": 1, ">": -1, ">>": -2}.get(tokens[at].text, 0)
+        at += 1
+        if depth == 0:
+            return at
 
-    def __init__(self, file, owner, name, public, parameters, result, start, end):
-        self.file, self.owner, self.name, self.public = file, owner, name, public
+
+def impl_of(words):
+    """Of an impl, by the words before its brace: its type's name, and the name that the prover gives it, which is the type's and then
+    the trait's, each with what it is made of."""
+    parameters = []
+    if words[0] == "<":
+        depth = 0
+        for i, word in enumerate(words):
+            depth += {"<": 1, ">": -1, ">>": -2}.get(word, 0)
+            if depth == 1 and words[i] in ("<", ","):
+                parameters.append(words[i + 1])
+            if depth == 0:
+                words = words[i + 1 :]
+                break
+
+    def name(part):
+        if part == ["(", ")"]:
+            return "Unit"
+        found = [w for w in part if re.match(r"[A-Za-z]\w*$", w) and w not in parameters]
+        return "".join(w[0].upper() + w[1:] for w in found)
+
+    if "for" not in words:
+        return words[0], words[0]
+    at = words.index("for")
+    first = next((w for w in words[at + 1 :] if re.match(r"[A-Za-z]", w)), "Unit")
+    return first, name(words[at + 1 :]) + name(words[:at])
+
+
+class Function:
+    """A function: where it stands, the type that owns it and the name that the prover gives that impl, its parameters and result by
+    type, and the tokens of its body."""
+
+    def __init__(self, file, impl, name, public, parameters, result, start, end):
+        self.file, self.name, self.public = file, name, public
+        self.owner, self.impl = impl or (None, None)
         self.parameters, self.result = parameters, result
         self.start, self.end = start, end
 
     @property
     def path(self):
+        return "::".join([*self.file.path, *([self.impl] if self.impl else []), self.name])
+
+    @property
+    def spelt_path(self):
+        """The path by which code names it."""
         return "::".join([*self.file.path, *([self.owner] if self.owner else []), self.name])
 
     @property
@@ -126,11 +172,12 @@ class File:
         self.tokens = tokens_of(self.text)
         self.path = [crate] if place.stem in ("lib", "main") else [crate, place.stem]
         self.functions, self.enums, self.constants, self.imports = [], {}, {}, {}
-        self.ghosts = []
+        self.ghosts, self.types = [], set(re.findall(r"(?m)^\s*(?:pub )?(?:struct|enum) (\w+)", self.text))
         self.read_items(0, len(self.tokens), None)
 
-    def read_items(self, at, end, owner):
+    def read_items(self, at, end, impl):
         tokens, public = self.tokens, False
+        owner = impl[0] if impl else None
         while at < end:
             word = tokens[at].text
             if word == "#":
@@ -147,18 +194,24 @@ class File:
                     at = close_of(tokens, at) + 1
                 continue
             if word == "ghost":
-                close = self.past(at, ";")
+                close = self.past_ghost(at)
                 self.ghosts.append((at, close))
                 at = close
             elif word == "use":
                 close = self.past(at, ";")
+                if [t.text for t in tokens[at + 1 : close - 1]] == ["std", "::", "marker", "::", "Model"]:
+                    self.ghosts.append((at, close))
                 for path in paths_of([t.text for t in tokens[at + 1 : close - 1]]):
                     self.imports[path[-1]] = [self.crate, *path[1:]] if path[0] == "crate" else path
                 at = close
-            elif word == "impl":
+            elif word in ("impl", "trait"):
                 open_at = self.past(at, "{") - 1
                 close = close_of(tokens, open_at)
-                self.read_items(open_at + 1, close, tokens[at + 1].text)
+                of = impl_of([t.text for t in tokens[at + 1 : open_at]])
+                if word == "impl" and of[1].endswith("Model"):
+                    self.ghosts.append((at, close + 1))
+                else:
+                    self.read_items(open_at + 1, close, of)
                 at = close + 1
             elif word == "enum":
                 at = self.read_enum(at)
@@ -169,7 +222,7 @@ class File:
                 self.constants[owner, tokens[at + 1].text] = tokens[at + 3].text
                 at = close
             elif word == "fn":
-                at = self.read_function(at, owner, public)
+                at = self.read_function(at, impl, public)
             else:
                 at += 1
                 continue
@@ -180,11 +233,26 @@ class File:
             at += 1
         return at + 1
 
+    def past_ghost(self, at):
+        """Past a ghost item, whose `;` stands in no bracket."""
+        while self.tokens[at].text != ";":
+            at = close_of(self.tokens, at) + 1 if self.tokens[at].text in OPEN else at + 1
+        return at + 1
+
     def past_struct(self, at):
         at += 2
+        while self.tokens[at].text not in ("(", "{", ";"):
+            at += 1
+        if self.tokens[at].text == ";":
+            return at + 1
+        close = close_of(self.tokens, at)
         if self.tokens[at].text == "(":
-            return self.past(close_of(self.tokens, at), ";")
-        return close_of(self.tokens, at) + 1
+            return self.past(close, ";")
+        for begin, end in parts_of(self.tokens, at + 1, close):
+            words = [t.text for t in self.tokens[begin:end]]
+            if "ghost" in words[:2]:
+                self.ghosts.append((begin, end + 1 if self.tokens[end].text == "," else end))
+        return close + 1
 
     def read_enum(self, at):
         name, open_at = self.tokens[at + 1].text, at + 2
@@ -196,12 +264,15 @@ class File:
         self.enums[name] = cases
         return close + 1
 
-    def read_function(self, at, owner, public):
+    def read_function(self, at, impl, public):
         tokens, name = self.tokens, self.tokens[at + 1].text
-        open_at = self.past(at, "(") - 1
+        open_at = past_types(tokens, at + 2)
         close = close_of(tokens, open_at)
         parameters = []
         for begin, end in parts_of(tokens, open_at + 1, close):
+            if tokens[end - 1].text == "self":
+                parameters.append(("self", "Self"))
+                continue
             if tokens[begin].text == "mut":
                 begin += 1
             kind = spelt(tokens[begin + 2 : end]) if end - begin > 1 else "Self"
@@ -209,15 +280,19 @@ class File:
         at, result = close + 1, "()"
         if tokens[at].text == "->":
             begin = at + 1
-            while tokens[at].text not in ("requires", "ensures", "ghost", "{"):
-                at += 1
+            while tokens[at].text not in ("requires", "ensures", "ghost", "where", "{", ";"):
+                at = close_of(tokens, at) + 1 if tokens[at].text in OPEN else at + 1
             result = spelt(tokens[begin:at])
+        while tokens[at].text not in ("requires", "ensures", "ghost", "{", ";"):
+            at += 1
         while tokens[at].text in ("requires", "ensures", "ghost"):
             end = close_of(tokens, self.past(at, "{") - 1) + 1
             self.ghosts.append((at, end))
             at = end
+        if tokens[at].text == ";":
+            return at + 1
         end = close_of(tokens, at) + 1
-        self.functions.append(Function(self, owner, name, public, parameters, result, at, end))
+        self.functions.append(Function(self, impl, name, public, parameters, result, at, end))
         return end
 
 
@@ -228,12 +303,19 @@ class Tree:
         self.crates = crates
         self.files = [File(c, p) for c in crates for p in sorted((base / "crates" / c / "src").glob("*.rt"))]
         self.functions = {f.path: f for file in self.files for f in file.functions}
+        self.spelt, self.foreign = {}, {}
+        for f in self.functions.values():
+            self.spelt.setdefault(f.spelt_path, f)
+            if f.owner and f.owner not in f.file.types:
+                self.foreign.setdefault((f.owner, f.name), f)
         self.enums = {"::".join([*file.path, name]): cases for file in self.files for name, cases in file.enums.items()}
         self.modules = {tuple(file.path) for file in self.files}
         self.reached = {}
 
     def full_path(self, file, owner, path):
         """The whole path of one that stands in `file`, in an impl of `owner` or in none."""
+        if not path:
+            return []
         first, rest = path[0], path[1:]
         if first == "Self":
             return [*file.path, owner, *rest]
@@ -247,7 +329,8 @@ class Tree:
         return [*file.path, *path]
 
     def function_at(self, file, owner, path):
-        return self.functions.get("::".join(self.full_path(file, owner, path)))
+        whole = "::".join(self.full_path(file, owner, path))
+        return self.functions.get(whole) or self.spelt.get(whole) or self.foreign.get(tuple(path[-2:]))
 
     def enum_at(self, file, owner, path):
         return self.enums.get("::".join(self.full_path(file, owner, path)))

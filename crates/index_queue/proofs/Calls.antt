@@ -14,8 +14,7 @@ use Rattle.state.proofs.Tests.{not-both}
 use Rattle.state.proofs.Calls.{Ends, not-whole, ends, refused, laid_out}
 use Rattle.multi_cycle_list.specs.Lists.{Lists, Valid, count, row, first, last, without_entry, moved_front, moved_back}
 use Rattle.multi_cycle_list.specs.Nodes as nodes
-use Rattle.multi_cycle_list.specs.declared.inner.MaybeEntry.{MaybeEntry}
-use Rattle.multi_cycle_list.specs.declared.inner.MaybeEntry.TheVariants.{Some, None}
+use Rattle.std.specs.Prelude.{Option, Some, None}
 use Rattle.multi_cycle_list.proofs.Lists.{In, in_count}
 use Rattle.multi_cycle_list.proofs.Arcs.{row_count}
 use Rattle.index_entries.specs.Keys.{Slot, free, holds, spent, Keys, has_key, is_free, slot, Found, missing, at, found, ValidKeys, with_lists, changed, fresh}
@@ -195,8 +194,8 @@ first_of : (l : List ℕ) (i : ℕ) → first l ≡ Some i → (r : List ℕ) ×
 first_of [] i q = never (cc)
 first_of (x ∷ xs) i q = (xs, cc)
 
-pub below : (n : ℕ) {a b : MaybeEntry} → Below n a → a ≡ b → Below n b
-below n h q = subst (λ (a : MaybeEntry). Below n a) q h
+pub below : (n : ℕ) {a b : Option ℕ} → Below n a → a ≡ b → Below n b
+below n h q = subst (λ (a : Option ℕ). Below n a) q h
 
 first_below : (n : ℕ) (l : List ℕ) → ((i : ℕ) → In i l → i < n) → Below n (first l)
 first_below n [] g = tt
@@ -219,10 +218,10 @@ module _ (s : List ℕ) (y : Bytes s) (h : whole_b s ≡ true) where
   unfolding r
   listed c i q = omega (arith, in_size (read s).lists r.valid c i (in_count i (row (read s).lists c) q), r.entries, slots_length s)
 
-  pub first_entry : (c : ℕ) {a : MaybeEntry} → a ≡ first (row (read s).lists c) → Below (entries s) a
+  pub first_entry : (c : ℕ) {a : Option ℕ} → a ≡ first (row (read s).lists c) → Below (entries s) a
   first_entry c q = below (entries s) (first_below (entries s) (row (read s).lists c) (listed c)) (sym q)
 
-  pub last_entry : (c : ℕ) {a : MaybeEntry} → a ≡ last (row (read s).lists c) → Below (entries s) a
+  pub last_entry : (c : ℕ) {a : Option ℕ} → a ≡ last (row (read s).lists c) → Below (entries s) a
   last_entry c q = below (entries s) (last-below (entries s) (row (read s).lists c) (listed c)) (sym q)
 
   pub first-free : (i : ℕ) → Some i ≡ first (row (read s).lists 1) → is_free (slot (read s) i) ≡ true
@@ -275,10 +274,10 @@ sizes-entries k e h = rw (lt-leb e 222 h, and-false)
 
 -- ---- the queue's ends
 
-pub front-is : (m : Keys) (a : MaybeEntry) → first (row m.lists 0) ≡ a → front m ≡ done (key_at m a) m
+pub front-is : (m : Keys) (a : Option ℕ) → first (row m.lists 0) ≡ a → front m ≡ done (key_at m a) m
 unfolding front
 front-is m a q = rw q
 
-pub back_is : (m : Keys) (a : MaybeEntry) → last (row m.lists 0) ≡ a → back m ≡ done (key_at m a) m
+pub back_is : (m : Keys) (a : Option ℕ) → last (row m.lists 0) ≡ a → back m ≡ done (key_at m a) m
 unfolding back
 back_is m a q = rw q

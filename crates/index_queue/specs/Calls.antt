@@ -1,12 +1,10 @@
 -- The calls of a key queue: on the plain meaning, and on bytes; and what is proved of them.
-use Rattle.std.specs.Prelude.{ℕ, ◌<◌, ◌^◌, ◌≡◌, Bool, true, false, cond, List, [], ◌∷◌, length, replicate, ltb, eqb}
+use Rattle.std.specs.Prelude.{ℕ, ◌<◌, ◌^◌, ◌≡◌, Bool, true, false, cond, List, [], ◌∷◌, length, replicate, ltb, eqb, Option, Some, None}
 use Rattle.state.specs.Lengths.{keys_allowed, keys_length}
 use Rattle.state.specs.Result as state
 use Rattle.state.specs.Result.{Result, refuse, done, Means}
 use Rattle.multi_cycle_list.specs.Lists as lists
 use Rattle.multi_cycle_list.specs.Lists.{row, first, last, without_entry, moved_front, moved_back}
-use Rattle.multi_cycle_list.specs.declared.inner.MaybeEntry.{MaybeEntry}
-use Rattle.multi_cycle_list.specs.declared.inner.MaybeEntry.TheVariants.{Some, None}
 use Rattle.index_entries.specs.Keys.{Slot, free, holds, spent, Keys, slot, Found, missing, at, found, ValidKeys, with_slot, with_lists, changed, fresh}
 use Rattle.index_entries.specs.Bytes.{whole_b, read}
 use Rattle.index_entries.specs.Laid.{laid}
@@ -73,7 +71,7 @@ key_in (holds k v) = Key k
 key_in (spent k) = Key k
 
 -- the key of the entry that a list names
-abbrev pub key_at : Keys → MaybeEntry → Answer
+abbrev pub key_at : Keys → Option ℕ → Answer
 key_at m (Some i) = key_in (slot m i)
 key_at m None = Nothing
 

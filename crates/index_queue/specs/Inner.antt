@@ -1,7 +1,5 @@
 -- What the inner functions answer. No contract of a public call cites this.
-use Rattle.std.specs.Prelude.{ℕ, ◌<◌, ◌≡◌, true, false, List}
-use Rattle.multi_cycle_list.specs.declared.inner.MaybeEntry.{MaybeEntry}
-use Rattle.multi_cycle_list.specs.declared.inner.MaybeEntry.TheVariants.{Some, None}
+use Rattle.std.specs.Prelude.{ℕ, ◌<◌, ◌≡◌, true, false, List, Option, Some, None}
 use Rattle.index_entries.specs.Keys.{holds, spent, slot, missing, at, found}
 use Rattle.index_entries.specs.Bytes.{whole_b, read}
 use Rattle.index_queue.specs.declared.Found.{Found}
@@ -23,6 +21,6 @@ FindsValue s k value.Spent = (whole_b s ≡ true) × ((i : ℕ) × (found (read 
 FindsValue s k (value.Value i v) = (whole_b s ≡ true) × (found (read s) k ≡ at i (holds k v))
 
 -- an entry, if any, is one of n
-abbrev pub Below : ℕ → MaybeEntry → Type 0
+abbrev pub Below : ℕ → Option ℕ → Type 0
 Below n (Some i) = i < n
 Below n None = Unit {0}

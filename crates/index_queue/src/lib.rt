@@ -15,7 +15,7 @@ use index_entries::change::{
 };
 use index_entries::look::{Held, Place, get_index, held_at, lists_end, word};
 use index_whole::whole;
-use multi_cycle_list::inner::{MaybeEntry, inner_back, inner_front};
+use multi_cycle_list::inner::{inner_back, inner_front};
 
 // An answer of a call. `NotTaken` has the key and the value of an insert; `Holds`, whether the key has an entry, or the value was stored.
 #[derive(Clone, Copy)]
@@ -128,7 +128,7 @@ pub fn get_mut(s: &mut [u8], key: u16, value: u32) -> Answer
 }
 
 // The first entry of the queue, which is class 0, or of the free ones, class 1.
-fn first_of(s: &[u8], class: usize) -> MaybeEntry
+fn first_of(s: &[u8], class: usize) -> Option<u8>
     requires { (whole_b s.now ≡ true) × (class < 2) }
     ensures { result ≡ first (row (read s.now).lists class) }
 {
@@ -145,11 +145,11 @@ fn insert_new(s: &mut [u8], key: u16, value: u32) -> Answer
         return Answer::NotTaken(key, value);
     }
     match first_of(s, 1) {
-        MaybeEntry::Some(i) => {
+        Some(i) => {
             take_entry(s, i as usize, key, value);
             Answer::Nothing
         }
-        MaybeEntry::None => Answer::NotTaken(key, value),
+        None => Answer::NotTaken(key, value),
     }
 }
 
@@ -193,13 +193,13 @@ fn key_at(s: &[u8], i: usize) -> Answer
     }
 }
 
-fn key_of(s: &[u8], entry: MaybeEntry) -> Answer
+fn key_of(s: &[u8], entry: Option<u8>) -> Answer
     requires { (whole_b s.now ≡ true) × Below (entries s.now) entry }
     ensures { result ≡ key_at (read s.now) entry }
 {
     match entry {
-        MaybeEntry::Some(i) => key_at(s, i as usize),
-        MaybeEntry::None => Answer::Nothing,
+        Some(i) => key_at(s, i as usize),
+        None => Answer::Nothing,
     }
 }
 

@@ -1,13 +1,11 @@
 -- The calls of a list queue: on plain lists, and on bytes; and what is proved of them.
-use Rattle.std.specs.Prelude.{ℕ, suc, ◌≡◌, Bool, true, false, cond, ◌&&◌, List, [], ◌∷◌, length, ltb, eqb}
+use Rattle.std.specs.Prelude.{ℕ, suc, ◌≡◌, Bool, true, false, cond, ◌&&◌, List, [], ◌∷◌, length, ltb, eqb, Option, Some, None}
 use Rattle.state.specs.Lengths.{lists_allowed, lists_length}
 use Rattle.state.specs.Result as state
 use Rattle.state.specs.Result.{Result, refuse, done, Means}
 use Rattle.multi_cycle_list.specs.Lists.{Lists, Valid, row, first, last, empty, without_entry, moved_front, moved_back}
 use Rattle.multi_cycle_list.specs.Nodes.{whole_b, read}
 use Rattle.multi_cycle_list.specs.Laid.{laid}
-use Rattle.multi_cycle_list.specs.declared.inner.MaybeEntry.{MaybeEntry}
-use Rattle.multi_cycle_list.specs.declared.inner.MaybeEntry.TheVariants.{Some, None}
 use Rattle.multi_class_queue.specs.declared.Answer.{Answer}
 use Rattle.multi_class_queue.specs.declared.Answer.TheVariants.{Refused, Done, Is, Nothing, Holds}
 
@@ -23,16 +21,16 @@ has_class m c = ltb c (length m.rows)
 abbrev pub has_entry : Lists → ℕ → Bool
 has_entry m e = ltb e m.entries
 
-abbrev pub named : MaybeEntry → Answer
+abbrev pub named : Option ℕ → Answer
 named (Some x) = Is x
 named None = Nothing
 
-abbrev pub is_none : MaybeEntry → Bool
+abbrev pub is_none : Option ℕ → Bool
 is_none (Some x) = false
 is_none None = true
 
 -- it is the entry e
-abbrev pub says : ℕ → MaybeEntry → Bool
+abbrev pub says : ℕ → Option ℕ → Bool
 says e (Some x) = eqb x e
 says e None = false
 

@@ -7,8 +7,7 @@ ghost use Rattle.multi_class_queue.specs.Inner.{refusal, move_refusal};
 ghost use Rattle.multi_class_queue.specs.Calls.{named, on, bytes, opening, front, back, is_empty, is_front, is_back, remove, move_front, move_back, ListsMean};
 
 use multi_cycle_list::inner::{
-    MaybeEntry, inner_back, inner_front, inner_move_back, inner_move_front, inner_open,
-    inner_remove,
+    inner_back, inner_front, inner_move_back, inner_move_front, inner_open, inner_remove,
 };
 use multi_cycle_list::whole::whole;
 
@@ -70,12 +69,12 @@ fn move_refusal(s: &[u8], class: u32, entry: u32) -> u8
     0
 }
 
-fn named(entry: MaybeEntry) -> Answer
+fn named(entry: Option<u8>) -> Answer
     ensures { result ≡ named entry }
 {
     match entry {
-        MaybeEntry::Some(e) => Answer::Is(e),
-        MaybeEntry::None => Answer::Nothing,
+        Some(e) => Answer::Is(e),
+        None => Answer::Nothing,
     }
 }
 

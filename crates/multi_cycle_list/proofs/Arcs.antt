@@ -13,7 +13,7 @@ use borrow.Author.Tests.{eq-eqb, ne_eqb}
 use Rattle.multi_cycle_list.specs.Lists.{count, counts}
 use Rattle.multi_cycle_list.specs.Laid.{Arc, arc, path, arcs, after, before}
 use Rattle.multi_cycle_list.proofs.Lists.{In, Below, count_same, count-other, count_in}
-use Rattle.multi_cycle_list.proofs.Chain.{Link, Chain}
+use Rattle.multi_cycle_list.proofs.Chain.{Joined, Chain}
 use Rattle.multi_cycle_list.proofs.Rep.{Rep}
 
 -- one more where a is i
@@ -210,7 +210,7 @@ module _ (C : ℕ) where
       let q : k + suc c ≡ suc k + c = omega arith in
       has_right a b (path C k r k) (arcs C (suc k) rs) (arcs_have rs (suc k) c (omega arith) a b (subst (λ (z : ℕ). Has a b (path C z (get_or rs c []) z)) q w))
 
-  path-chain : (nx pv : ℕ → ℕ) (es : List ℕ) (a b : ℕ) → ((x y : ℕ) → Has x y (path C a es b) → Link nx pv x y) → Chain C nx pv a es b
+  path-chain : (nx pv : ℕ → ℕ) (es : List ℕ) (a b : ℕ) → ((x y : ℕ) → Has x y (path C a es b) → Joined nx pv x y) → Chain C nx pv a es b
   unfolding path
   path-chain nx pv [] a b h = h a b (inl (refl, refl))
   path-chain nx pv (e ∷ es) a b h = (h a (C + e) (inl (refl, refl)), path-chain nx pv es (C + e) b (λ x y w. h x y (inr w)))

@@ -9,12 +9,12 @@ use lib.ListN.{length}
 use Rattle.multi_cycle_list.specs.Lists.{without}
 use Rattle.multi_cycle_list.proofs.Lists.{In, Below, NoDup, without-same, without_other}
 
-abbrev pub Link : (ℕ → ℕ) → (ℕ → ℕ) → ℕ → ℕ → Type 0
-Link nx pv a b = (nx a ≡ b) × (pv b ≡ a)
+abbrev pub Joined : (ℕ → ℕ) → (ℕ → ℕ) → ℕ → ℕ → Type 0
+Joined nx pv a b = (nx a ≡ b) × (pv b ≡ a)
 
 abbrev pub Chain : ℕ → (ℕ → ℕ) → (ℕ → ℕ) → ℕ → List ℕ → ℕ → Type 0
-Chain C nx pv a [] b = Link nx pv a b
-Chain C nx pv a (e ∷ es) b = Link nx pv a (C + e) × Chain C nx pv (C + e) es b
+Chain C nx pv a [] b = Joined nx pv a b
+Chain C nx pv a (e ∷ es) b = Joined nx pv a (C + e) × Chain C nx pv (C + e) es b
 
 -- ---- one chain from a to a class: its list is one, and has each entry once
 
@@ -96,7 +96,7 @@ pub record Unbinds (nx pv nx' pv' : ℕ → ℕ) (x : ℕ) : Type 0 where
   pub p-other : (b : ℕ) → b ≢ x → b ≢ nx x → pv' b ≡ pv b
 
 module _ (C : ℕ) (nx pv nx' pv' : ℕ → ℕ) (e : ℕ) (u : Unbinds nx pv nx' pv' (C + e)) where
-  pub link_kept : (a b : ℕ) → Link nx pv a b → a ≢ C + e → b ≢ C + e → Link nx' pv' a b
+  pub link_kept : (a b : ℕ) → Joined nx pv a b → a ≢ C + e → b ≢ C + e → Joined nx' pv' a b
   link_kept a b l na nb = (
     u.n-other a na (λ q. nb (sym l.0 ∙ ap nx q ∙ u.forth)) ∙ l.0,
     u.p-other b nb (λ q. na (sym l.1 ∙ ap pv q ∙ u.back)) ∙ l.1,
@@ -134,8 +134,8 @@ module _ (C : ℕ) (nx pv nx' pv' : ℕ → ℕ) (e : ℕ) (u : Unbinds nx pv nx
 -- ---- the lone node x put in between a and b
 
 pub record Binds (nx pv nx' pv' : ℕ → ℕ) (x a b : ℕ) : Type 0 where
-  pub lone : Link nx pv x x
-  pub cut : Link nx pv a b
+  pub lone : Joined nx pv x x
+  pub cut : Joined nx pv a b
   pub n-a : nx' a ≡ x
   pub n-at : nx' x ≡ b
   pub n-other : (c : ℕ) → c ≢ x → c ≢ a → nx' c ≡ nx c
@@ -144,18 +144,18 @@ pub record Binds (nx pv nx' pv' : ℕ → ℕ) (x a b : ℕ) : Type 0 where
   pub p-other : (c : ℕ) → c ≢ x → c ≢ b → pv' c ≡ pv c
 
 module _ (C : ℕ) (nx pv nx' pv' : ℕ → ℕ) (e a b : ℕ) (u : Binds nx pv nx' pv' (C + e) a b) where
-  bound_link : (c d : ℕ) → Link nx pv c d → c ≢ C + e → c ≢ a → Link nx' pv' c d
+  bound_link : (c d : ℕ) → Joined nx pv c d → c ≢ C + e → c ≢ a → Joined nx' pv' c d
   bound_link c d l ne na = (
     u.n-other c ne na ∙ l.0,
     u.p-other d (λ z. ne (sym l.1 ∙ ap pv z ∙ u.lone.1)) (λ z. na (sym l.1 ∙ ap pv z ∙ u.cut.1)) ∙ l.1,
   )
 
   -- what leads elsewhere than to b does not come from a
-  not-from : (c d : ℕ) → Link nx pv c d → d ≢ b → c ≢ a
+  not-from : (c d : ℕ) → Joined nx pv c d → d ≢ b → c ≢ a
   not-from c d l nb z = nb (sym l.0 ∙ ap nx z ∙ u.cut.0)
 
   -- the links that stay where a or b is the class q: those that touch no q, and from another node to q where a is q
-  pub kept : (q : ℕ) → (a ≡ q) ⊎ (b ≡ q) → (c d : ℕ) → Link nx pv c d → c ≢ C + e → c ≢ q → (a ≡ q) ⊎ (d ≢ q) → Link nx' pv' c d
+  pub kept : (q : ℕ) → (a ≡ q) ⊎ (b ≡ q) → (c d : ℕ) → Joined nx pv c d → c ≢ C + e → c ≢ q → (a ≡ q) ⊎ (d ≢ q) → Joined nx' pv' c d
   kept q t c d l ne nc nd =
       let from : a ≡ q → c ≢ a = λ y z. nc (z ∙ y) in
       bound_link c d l ne (⊎_elim from (λ (n : d ≢ q). ⊎_elim from (λ y. not-from c d l (λ z. n (z ∙ y))) t) nd)
@@ -169,7 +169,7 @@ module _ (C : ℕ) (nx pv nx' pv' : ℕ → ℕ) (e a b : ℕ) (u : Binds nx pv 
   )
 
   -- from x on to where a led
-  on : (d : ℕ) → nx a ≡ d → Link nx' pv' (C + e) d
+  on : (d : ℕ) → nx a ≡ d → Joined nx' pv' (C + e) d
   on d h = (u.n-at ∙ sym u.cut.0 ∙ h, ap pv' (sym h ∙ u.cut.0) ∙ u.p-b)
 
   pub bound-front : a < C → (es : List ℕ) → (In e es → ⊥) → Chain C nx pv a es a → Chain C nx' pv' a (e ∷ es) a

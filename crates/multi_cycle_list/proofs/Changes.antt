@@ -17,7 +17,7 @@ use Rattle.multi_cycle_list.specs.Inner.{unbind_b, bind_b, alone_to, as_entry, M
 use Rattle.multi_cycle_list.specs.Lists.{Lists, Valid, counts, row, first, last, removed, pushed_front, pushed_back, with_rows, without_entry, moved_front, moved_back, empty}
 use Rattle.multi_cycle_list.specs.Laid.{laid}
 use Rattle.multi_cycle_list.proofs.WholeTools.{whole-sizes, allowed_of}
-use Rattle.multi_cycle_list.specs.declared.inner.MaybeEntry.TheVariants.{Some}
+use Rattle.std.specs.Prelude.{Some}
 use Rattle.multi_cycle_list.proofs.Lists.{Below, In, in_count}
 use Rattle.multi_cycle_list.proofs.Chain.{Chain, tail_from}
 use Rattle.multi_cycle_list.proofs.Arcs.{row_count, counts_in}

@@ -12,7 +12,7 @@ use lib.Seq.{get_or-set_same, get_or-set_other}
 use Rattle.multi_cycle_list.specs.Nodes.{classes, entries, next, prev, whole_b, lists_of, list_of}
 use Rattle.multi_cycle_list.specs.Inner.{link_b, alone_to}
 use Rattle.state.specs.Seq.{each}
-use Rattle.multi_cycle_list.proofs.Chain.{Link}
+use Rattle.multi_cycle_list.proofs.Chain.{Joined}
 use Rattle.multi_cycle_list.proofs.Stores.{Same, same_self, link_same, link_next, link_prev}
 use Rattle.multi_cycle_list.proofs.Sound.{Stands, complete, list-is}
 use Rattle.state.proofs.Seq.{each_same}
@@ -23,7 +23,7 @@ module _ (s : List ℕ) where
   alone-same zero = same_self s
   alone-same (suc n) = link_same _ s n n (alone-same n)
 
-  alone_at : (n k : ℕ) → k < n → 2 + 2 * n ≤ length s → Link (next (alone_to s n)) (prev (alone_to s n)) k k
+  alone_at : (n k : ℕ) → k < n → 2 + 2 * n ≤ length s → Joined (next (alone_to s n)) (prev (alone_to s n)) k k
   unfolding alone_to
   alone_at zero k h l = absurd (not-suc-le-zero h)
   alone_at (suc n) k h l =
@@ -32,7 +32,7 @@ module _ (s : List ℕ) where
       let x = link_next t n n f f in
       let y = link_prev t n n f f in
       elim (ℕ_discrete k n) [
-        | yes q ↦ subst (λ (j : ℕ). Link (next (link_b t n n)) (prev (link_b t n n)) j j) (sym q) (x.at, y.at)
+        | yes q ↦ subst (λ (j : ℕ). Joined (next (link_b t n n)) (prev (link_b t n n)) j j) (sym q) (x.at, y.at)
         | no q ↦ (let w = alone_at n k (omega arith) (omega arith) in (x.other k q ∙ w.0, y.other k q ∙ w.1))
       ]
 

@@ -15,7 +15,7 @@ use Rattle.state.specs.Result.{Bytes}
 use Rattle.multi_cycle_list.specs.Lists.{Lists, Valid, count, counts}
 use Rattle.multi_cycle_list.specs.Laid.{Arc, arcs, after, before, twos, laid_out, laid}
 use Rattle.multi_cycle_list.proofs.Lists.{In, Below, NoDup, count_same, count-other, count_in}
-use Rattle.multi_cycle_list.proofs.Chain.{Link, Chain, chain_nodup, one_class}
+use Rattle.multi_cycle_list.proofs.Chain.{Joined, Chain, chain_nodup, one_class}
 use Rattle.multi_cycle_list.proofs.Rep.{Rep}
 use Rattle.multi_cycle_list.proofs.WholeTools.{whole-sizes, allowed_of, of_allowed}
 use Rattle.multi_cycle_list.proofs.Sound.{Stands, linked_in, sound, complete, list-is}
@@ -62,7 +62,7 @@ module _ (C E : ℕ) (l : List Arc) where
 -- ---- links that are the same at each node stand for the same lists
 
 module _ (C E : ℕ) (nx pv nx' pv' : ℕ → ℕ) (n : (i : ℕ) → i < C + E → nx' i ≡ nx i) (p : (i : ℕ) → i < C + E → pv' i ≡ pv i) where
-  like_link : (a b : ℕ) → a < C + E → b < C + E → Link nx pv a b → Link nx' pv' a b
+  like_link : (a b : ℕ) → a < C + E → b < C + E → Joined nx pv a b → Joined nx' pv' a b
   like_link a b ha hb l = (n a ha ∙ l.0, p b hb ∙ l.1)
 
   like_chain : (es : List ℕ) (a b : ℕ) → a < C + E → b < C + E → Below E es → Chain C nx pv a es b → Chain C nx' pv' a es b

@@ -1,316 +1,224 @@
 -- The ends of a trail meet just where a chain closes, and it marks the chain's entries; so the marks tell each entry's class.
-use Prim.Native.Nat.{ℕ, zero, suc, ◌+◌, ◌-◌, ◌<◌, ◌≤◌}
+use Prim.Native.Nat.{ℕ, zero, suc, ◌+◌, ◌-◌, ◌*◌, ◌<◌, ◌≤◌}
 use mathlib.Core.Path.{◌≡◌, refl, sym, ap, ◌∙◌, subst}
 use mathlib.Core.Logic.{◌≢◌, ◌⊎◌, inl, inr, ⊎_elim}
 use mathlib.Core.List.{List, [], ◌∷◌, ◌++◌, map}
-use mathlib.Core.Bool.{Bool, true, false, cond, ◌&&◌, or-true}
+use mathlib.Core.Bool.{Bool, true, false, cond, ◌&&◌}
 use native.Mathlib.Omega.{arith}
-use native.Mathlib.Decide.{ℕ_discrete, dec_lt}
-use native.Mathlib.Numerals.{add-one, sub-one}
+use native.Mathlib.Decide.{ℕ_discrete}
+use native.Mathlib.Numerals.{add-one}
 use native.Mathlib.Nat.{not-suc-le-zero}
 use lib.ListN.{length, get_or, set, length-set, get_or-replicate, length-replicate}
 use lib.Seq.{get_or-set_same, get_or-set_other}
 use lib.Dec.{eqb, ltb}
-use borrow.Author.Tests.{lt-ltb, le-ltb, le-leb, lt-leb, eq-eqb, ne_eqb, eqb-true}
-use Rattle.state.proofs.Tests.{not-both, and_r, by_cond}
+use borrow.Author.Tests.{lt-ltb, le-ltb, ltb-true, ltb-false, eq-eqb, ne_eqb, eqb-true}
+use Rattle.std.specs.Prelude.{Option, Some, None}
+use Rattle.std.proofs.lemmas.Option.{cond_some}
+use Rattle.state.proofs.Tests.{not-both, and_l, and_r, by_cond}
 use Rattle.multi_cycle_list.specs.Nodes.{classes, entries, next, prev, list_of}
-use Rattle.multi_cycle_list.specs.Inner.{ahead, behind, Trail, ended, off, trail, trail_at, unmarked, marks_of, meets_at}
+use Rattle.multi_cycle_list.specs.declared.link.Link.{Link}
+use Rattle.multi_cycle_list.specs.declared.link.Link.TheVariants.{Next, Prev}
+use Rattle.multi_cycle_list.specs.Inner.{opposite, link_at, linked, Trail, ended, comes, trail, trail_at, unmarked, marks_of, meets_at}
 use Rattle.multi_cycle_list.proofs.Lists.{In, Below, pigeon, in_or-not, in_snoc_old, in_snoc_new, below_snoc}
-use Rattle.multi_cycle_list.proofs.Chain.{Link, Chain, chain_nodup}
+use Rattle.multi_cycle_list.proofs.Chain.{Joined, Chain, chain_nodup}
 use Rattle.multi_cycle_list.proofs.Trace.{chain-trace, map_back}
 use Rattle.multi_cycle_list.proofs.WholeTools.{Sizes}
 
 -- ---- a step of a trail
 
--- `ahead` is a step along next, `behind` along prev
-abbrev stepped : (ℕ → ℕ) → (ℕ → ℕ) → ℕ → ℕ → ℕ
-stepped nx pv n i = cond (ltb (nx i) n && eqb (pv (nx i)) i) (nx i) n
+-- where the links lead
+abbrev pub leads : List ℕ → Link → ℕ → ℕ
+leads s link i = link_at s i link
 
-stepped_link : (nx pv : ℕ → ℕ) (n i : ℕ) → stepped nx pv n i < n → Link nx pv i (stepped nx pv n i)
-stepped_link nx pv n i h = from (ltb (nx i) n && eqb (pv (nx i)) i) refl h
-  where
-    from : (t : Bool) → (ltb (nx i) n && eqb (pv (nx i)) i) ≡ t → cond t (nx i) n < n → Link nx pv i (cond t (nx i) n)
-    from true q l = (refl, eqb-true (pv (nx i)) i (and_r (ltb (nx i) n) (eqb (pv (nx i)) i) q))
-    from false q l = absurd (omega arith)
+opposite-twice : (link : Link) → opposite (opposite link) ≡ link
+opposite-twice Next = refl
+opposite-twice Prev = refl
 
-link_stepped : (nx pv : ℕ → ℕ) (n i j : ℕ) → Link nx pv i j → j < n → stepped nx pv n i ≡ j
-link_stepped nx pv n i j l h = rw (l.0, lt-ltb j n h, eq-eqb (pv j) i l.1)
+module _ (s : List ℕ) (n i : ℕ) (link : Link) (j : ℕ) where
+  pub linked_joined : linked s n i link ≡ Some j → (j < n) × Joined (leads s link) (leads s (opposite link)) i j
+  linked_joined q =
+      let to = link_at s i link in
+      let back = eqb (link_at s to (opposite link)) i in
+      let r = cond_some (ltb to n && back) to j q in
+      subst (λ (x : ℕ). (x < n) × Joined (leads s link) (leads s (opposite link)) i x) r.1
+      (ltb-true to n (and_l (ltb to n) back r.0), (refl, eqb-true (link_at s to (opposite link)) i (and_r (ltb to n) back r.0)))
 
-module _ (n c : ℕ) (s : List ℕ) (f b v : ℕ) (l : List ℕ) where
-  trail-met : (k : ℕ) → 0 < k → ahead s n f ≡ b → trail k n c s f b v l ≡ ended true l
+  joined-linked : Joined (leads s link) (leads s (opposite link)) i j → j < n → linked s n i link ≡ Some j
+  joined-linked l h = rw (l.0, lt-ltb j n h, eq-eqb (link_at s j (opposite link)) i l.1)
+
+by_comes : (P : Trail → Type 0) (c b : ℕ) (l : List ℕ) (on : ℕ → Trail) (o : Option ℕ) → P (ended false l) → ((x : ℕ) → o ≡ Some x → x ≡ b → P (ended true l))
+    → ((x : ℕ) → o ≡ Some x → c ≤ x → P (on x)) → P (comes c b l on o)
+by_comes P c b l on None stops meets goes = stops
+by_comes P c b l on (Some x) stops meets goes =
+    by_cond P (eqb x b) {a = ended true l} {b = cond (ltb x c) (ended false l) (on x)} (λ e. meets x refl (eqb-true x b e))
+    (λ _. by_cond P (ltb x c) {a = ended false l} {b = on x} (λ _. stops) (λ w. goes x refl (ltb-false x c w)))
+
+length-trail : (k n c : ℕ) (s : List ℕ) (link : Link) (a b v : ℕ) (l : List ℕ) → length (trail k n c s link a b v l).seen ≡ length l
+unfolding trail
+length-trail zero n c s link a b v l = refl
+length-trail (suc k) n c s link a b v l =
+    by_comes (λ t. length t.seen ≡ length l) c b l (λ x. trail k n c s (opposite link) b x v (set l x v)) (linked s n a link) refl (λ x q e. refl)
+    (λ x q w. length-trail k n c s (opposite link) b x v (set l x v) ∙ length-set l x v)
+
+-- ---- the code's loop
+
+-- what it answers and marks is T
+abbrev pub Came : Bool → List ℕ → Trail → Type 0
+Came met l T = record { met : met ≡ T.met; marks : l ≡ T.seen }
+
+-- after i steps, of which the n nodes allow 2 * n: what is left to go comes to T
+pub record Left (n c : ℕ) (s : List ℕ) (v : ℕ) (T : Trail) (i : ℕ) (link : Link) (a b : ℕ) (l : List ℕ) : Type 0 where
+  pub a_in : a < n
+  pub b_in : b < n
+  pub is : trail (2 * n - i) n c s link a b v l ≡ T
+
+module _ {n c : ℕ} {s : List ℕ} {v : ℕ} {T : Trail} {i : ℕ} {link : Link} {a b : ℕ} {l : List ℕ} (h : Left n c s v T i link a b l) where
+  came : (met : Bool) → trail (2 * n - i) n c s link a b v l ≡ ended met l → Came met l T
+  came met q = let e = sym q ∙ h.is in record { met = ap (λ (t : Trail). t.met) e; marks = ap (λ (t : Trail). t.seen) e }
+
+  pub counted : {j : ℕ} → i ≡ j → Left n c s v T j link a b l
+  counted e = subst (λ (j : ℕ). Left n c s v T j link a b l) e h
+
+  pub no_step : 2 * n ≤ i → Came false l T
   unfolding trail
-  trail-met zero p q = absurd (not-suc-le-zero p)
-  trail-met (suc k) p q = rw (eq-eqb (ahead s n f) b q)
+  no_step z = came false (let q : 2 * n - i ≡ 0 = omega arith in rw q)
 
-  module _ (q : ahead s n f ≢ b) where
-    trail-off : (k : ℕ) → 0 < k → off n c (ahead s n f) ≡ true → trail k n c s f b v l ≡ ended false l
+  module _ (p : i < 2 * n) where
+    trail-step : trail (2 * n - i) n c s link a b v l ≡ comes c b l (λ x. trail (2 * n - (i + 1)) n c s (opposite link) b x v (set l x v)) (linked s n a link)
     unfolding trail
-    trail-off zero p o = absurd (not-suc-le-zero p)
-    trail-off (suc k) p o = rw (ne_eqb (ahead s n f) b q, o)
+    trail-step = let q : 2 * n - i ≡ suc (2 * n - (i + 1)) = omega arith in rw q
 
-    module _ (i : off n c (ahead s n f) ≡ false) where
-      trail-met-behind : (k : ℕ) → 0 < k → behind s n b ≡ ahead s n f → trail k n c s f b v l ≡ ended true (set l (ahead s n f) v)
-      unfolding trail
-      trail-met-behind zero p r = absurd (not-suc-le-zero p)
-      trail-met-behind (suc k) p r = rw (ne_eqb (ahead s n f) b q, i, eq-eqb (behind s n b) (ahead s n f) r)
+    pub step_none : None ≡ linked s n a link → Came false l T
+    step_none q = came false (trail-step ∙ rw (sym q))
 
-      module _ (r : behind s n b ≢ ahead s n f) where
-        trail-off-behind : (k : ℕ) → 0 < k → off n c (behind s n b) ≡ true → trail k n c s f b v l ≡ ended false (set l (ahead s n f) v)
-        unfolding trail
-        trail-off-behind zero p o = absurd (not-suc-le-zero p)
-        trail-off-behind (suc k) p o = rw (ne_eqb (ahead s n f) b q, i, ne_eqb (behind s n b) (ahead s n f) r, o)
+    module _ {x : ℕ} (q : Some x ≡ linked s n a link) where
+      pub step_meets : x ≡ b → Came true l T
+      step_meets e = came true (trail-step ∙ rw (sym q, eq-eqb x b e))
 
-        trail_more : (k : ℕ) → off n c (behind s n b) ≡ false
-            → trail (suc k) n c s f b v l ≡ trail k n c s (ahead s n f) (behind s n b) v (set (set l (ahead s n f) v) (behind s n b) v)
-        unfolding trail
-        trail_more k o = rw (ne_eqb (ahead s n f) b q, i, ne_eqb (behind s n b) (ahead s n f) r, o)
+      module _ (e : x ≢ b) where
+        pub step_class : x < c → Came false l T
+        step_class w = came false (trail-step ∙ rw (sym q, ne_eqb x b e, lt-ltb x c w))
 
-        trail-step : (k : ℕ) → 0 < k → off n c (behind s n b) ≡ false
-            → trail k n c s f b v l ≡ trail (k - 1) n c s (ahead s n f) (behind s n b) v (set (set l (ahead s n f) v) (behind s n b) v)
-        trail-step zero p o = absurd (not-suc-le-zero p)
-        trail-step (suc k) p o = rw sub-one (trail_more k o)
+        pub step_on : c ≤ x → Left n c s v T (i + 1) (opposite link) b x (set l x v)
+        step_on w =
+            record {
+              a_in = h.b_in;
+              b_in = (linked_joined s n a link x (sym q)).0;
+              is = sym (trail-step ∙ rw (sym q, ne_eqb x b e, le-ltb x c w)) ∙ h.is;
+            }
 
-trail-none : (k n c : ℕ) (s : List ℕ) (f b v : ℕ) (l : List ℕ) → k ≤ 0 → trail k n c s f b v l ≡ ended false l
-unfolding trail
-trail-none zero n c s f b v l h = refl
-trail-none (suc k) n c s f b v l h = absurd (not-suc-le-zero h)
+-- ---- a chain from its other end
 
-pub off-class : (n c x : ℕ) → x < c → off n c x ≡ true
-off-class n c x h = rw (lt-ltb x c h)
+turned : List ℕ → List ℕ
+turned [] = []
+turned (z ∷ zs) = turned zs ++ (z ∷ [])
 
-pub off-out : (n c x : ℕ) → n ≤ x → off n c x ≡ true
-off-out n c x h = rw (le-leb n x h, or-true)
-
-pub off-not : (n c x : ℕ) → c ≤ x → x < n → off n c x ≡ false
-off-not n c x h l = rw (le-ltb x c h, lt-leb n x l)
-
-length-trail : (k n c : ℕ) (s : List ℕ) (f b v : ℕ) (l : List ℕ) → length (trail k n c s f b v l).seen ≡ length l
-unfolding trail
-length-trail zero n c s f b v l = refl
-length-trail (suc k) n c s f b v l =
-    let a = ahead s n f in
-    let z = behind s n b in
-    let la = length-set l a v in
-    let more = trail k n c s a z v (set (set l a v) z v) in
-    let P : Trail → Type 0 = λ t. length t.seen ≡ length l in
-    let b3 = cond (off n c z) (ended false (set l a v)) more in
-    let b2 = cond (eqb z a) (ended true (set l a v)) b3 in
-    let b1 = cond (off n c a) (ended false l) b2 in
-    by_cond P (eqb a b) {a = ended true l} {b = b1} (λ q. refl) (λ q.
-    by_cond P (off n c a) {a = ended false l} {b = b2} (λ q. refl) (λ q.
-    by_cond P (eqb z a) {a = ended true (set l a v)} {b = b3} (λ q. la) (λ q.
-    by_cond P (off n c z) {a = ended false (set l a v)} {b = more} (λ q. la) (λ q. length-trail k n c s a z v (set (set l a v) z v) ∙ length-set (set l a v) z v ∙ la))))
-
--- ---- a turn of the code's loop: what is left to go comes to T
-
-came : (b : Bool) (l : List ℕ) (t T : Trail) → t ≡ T → t ≡ ended b l → (b ≡ T.met) × (l ≡ T.seen)
-came b l t T h q = (ap (λ (x : Trail). x.met) (sym q ∙ h), ap (λ (x : Trail). x.seen) (sym q ∙ h))
-
-pub no_turn : (k n c : ℕ) (s : List ℕ) (f b v : ℕ) (l : List ℕ) (T : Trail) → trail k n c s f b v l ≡ T → k ≤ 0 → (false ≡ T.met) × (l ≡ T.seen)
-no_turn k n c s f b v l T h z = came false l (trail k n c s f b v l) T h (trail-none k n c s f b v l z)
-
-module _ (k n c : ℕ) (s : List ℕ) (f b v : ℕ) (l : List ℕ) (T : Trail) (h : trail k n c s f b v l ≡ T) (p : 0 < k) (a : ℕ) (ea : a ≡ ahead s n f) where
-  pub turn_met : a ≡ b → (true ≡ T.met) × (l ≡ T.seen)
-  turn_met q = came true l (trail k n c s f b v l) T h (trail-met n c s f b v l k p (sym ea ∙ q))
-
-  module _ (q : a ≢ b) where
-    pub turn_off : off n c a ≡ true → (false ≡ T.met) × (l ≡ T.seen)
-    turn_off o = came false l (trail k n c s f b v l) T h (trail-off n c s f b v l (λ e. q (ea ∙ e)) k p (subst (λ (x : ℕ). off n c x ≡ true) ea o))
-
-    module _ (i : off n c a ≡ false) (z : ℕ) (ez : z ≡ behind s n b) where
-      pub turn_met-behind : z ≡ a → (true ≡ T.met) × (set l a v ≡ T.seen)
-      turn_met-behind r =
-          came true (set l a v) (trail k n c s f b v l) T h
-          (trail-met-behind n c s f b v l (λ e. q (ea ∙ e)) (subst (λ (x : ℕ). off n c x ≡ false) ea i) k p (sym ez ∙ r ∙ ea) ∙ ap (λ (x : ℕ). ended true (set l x v)) (sym ea))
-
-      module _ (r : z ≢ a) where
-        pub turn_off-behind : off n c z ≡ true → (false ≡ T.met) × (set l a v ≡ T.seen)
-        turn_off-behind o =
-            came false (set l a v) (trail k n c s f b v l) T h
-            (trail-off-behind n c s f b v l (λ e. q (ea ∙ e)) (subst (λ (x : ℕ). off n c x ≡ false) ea i) (λ e. r (ez ∙ e ∙ sym ea)) k p (subst (λ (x : ℕ). off n c x ≡ true) ez o)
-            ∙ ap (λ (x : ℕ). ended false (set l x v)) (sym ea))
-
-        pub turn_again : off n c z ≡ false → trail (k - 1) n c s a z v (set (set l a v) z v) ≡ T
-        turn_again o =
-            ap (λ (x : ℕ). trail (k - 1) n c s x z v (set (set l x v) z v)) ea
-            ∙ ap (λ (x : ℕ). trail (k - 1) n c s (ahead s n f) x v (set (set l (ahead s n f) v) x v)) ez
-            ∙ sym (trail-step n c s f b v l (λ e. q (ea ∙ e)) (subst (λ (x : ℕ). off n c x ≡ false) ea i) (λ e. r (ez ∙ e ∙ sym ea)) k p (subst (λ (x : ℕ). off n c x ≡ false) ez o))
-            ∙ h
-
--- ---- chains, from both ends
-
-chain_snoc : (C : ℕ) (nx pv : ℕ → ℕ) (ws : List ℕ) (a y b : ℕ) → Chain C nx pv a ws (C + y) → Link nx pv (C + y) b → Chain C nx pv a (ws ++ (y ∷ [])) b
+chain_snoc : (C : ℕ) (nx pv : ℕ → ℕ) (ws : List ℕ) (a y b : ℕ) → Chain C nx pv a ws (C + y) → Joined nx pv (C + y) b → Chain C nx pv a (ws ++ (y ∷ [])) b
 chain_snoc C nx pv [] a y b p l = (p, l)
 chain_snoc C nx pv (w ∷ ws) a y b p l = (p.0, chain_snoc C nx pv ws (C + w) y b p.1 l)
 
-snoc_chain : (C : ℕ) (nx pv : ℕ → ℕ) (ws : List ℕ) (a y b : ℕ) → Chain C nx pv a (ws ++ (y ∷ [])) b → Chain C nx pv a ws (C + y) × Link nx pv (C + y) b
-snoc_chain C nx pv [] a y b p = p
-snoc_chain C nx pv (w ∷ ws) a y b p = let r = snoc_chain C nx pv ws (C + w) y b p.1 in ((p.0, r.0), r.1)
+chain-turned : (C : ℕ) (nx pv : ℕ → ℕ) (zs : List ℕ) (a b : ℕ) → Chain C nx pv a zs b → Chain C pv nx b (turned zs) a
+unfolding turned
+chain-turned C nx pv [] a b p = (p.1, p.0)
+chain-turned C nx pv (z ∷ zs) a b p = chain_snoc C pv nx (turned zs) b z a (chain-turned C nx pv zs (C + z) b p.1) (p.0.1, p.0.0)
 
-snoc_below : (E : ℕ) (ws : List ℕ) (y : ℕ) → Below E (ws ++ (y ∷ [])) → Below E ws × (y < E)
-snoc_below E [] y h = (tt, h.0)
-snoc_below E (w ∷ ws) y h = let r = snoc_below E ws y h.1 in ((h.0, r.0), r.1)
+below-turned : (E : ℕ) (zs : List ℕ) → Below E zs → Below E (turned zs)
+unfolding turned
+below-turned E [] w = tt
+below-turned E (z ∷ zs) w = below_snoc E (turned zs) z w.0 (below-turned E zs w.1)
 
 snoc_length : (ws : List ℕ) (y : ℕ) → length (ws ++ (y ∷ [])) ≡ suc (length ws)
 snoc_length [] y = refl
 snoc_length (w ∷ ws) y = ap suc (snoc_length ws y)
 
+length-turned : (zs : List ℕ) → length (turned zs) ≡ length zs
+unfolding turned
+length-turned [] = refl
+length-turned (z ∷ zs) = snoc_length (turned zs) z ∙ ap suc (length-turned zs)
+
+in_turned : (zs : List ℕ) (e : ℕ) → In e zs → In e (turned zs)
+unfolding turned
+in_turned [] e i = i
+in_turned (z ∷ zs) e i = ⊎_elim (λ q. in_snoc_new (turned zs) e z q) (λ j. in_snoc_old (turned zs) e z (in_turned zs e j)) i
+
 snoc_in : (ws : List ℕ) (y e : ℕ) → In e (ws ++ (y ∷ [])) → In e ws ⊎ (e ≡ y)
 snoc_in [] y e i = ⊎_elim (λ q. inr q) (λ j. absurd j) i
 snoc_in (w ∷ ws) y e i = ⊎_elim (λ q. inl (inl q)) (λ j. ⊎_elim (λ k. inl (inr k)) (λ q. inr q) (snoc_in ws y e j)) i
 
-record Snoc (zs : List ℕ) : Type 0 where
-  init : List ℕ
-  last : ℕ
-  is : zs ≡ init ++ (last ∷ [])
-
-snoc_of : (z : ℕ) (zs : List ℕ) → Snoc (z ∷ zs)
-snoc_of z [] = record { init = []; last = z; is = refl }
-snoc_of z (y ∷ ys) = let r = snoc_of y ys in record { init = z ∷ r.init; last = r.last; is = ap (λ (t : List ℕ). z ∷ t) r.is }
+of_turned : (zs : List ℕ) (e : ℕ) → In e (turned zs) → In e zs
+unfolding turned
+of_turned [] e i = i
+of_turned (z ∷ zs) e i = ⊎_elim (λ j. inr (of_turned zs e j)) (λ q. inl q) (snoc_in (turned zs) z e i)
 
 -- ---- where the ends meet
 
-record Closed (C E : ℕ) (nx pv : ℕ → ℕ) (f b v : ℕ) (l m : List ℕ) : Type 0 where
+record Closed (C E : ℕ) (nx pv : ℕ → ℕ) (a b v : ℕ) (l m : List ℕ) : Type 0 where
   zs : List ℕ
-  chain : Chain C nx pv f zs b
+  chain : Chain C nx pv a zs b
   inside : Below E zs
   marked : (e : ℕ) → In e zs → get_or m (C + e) 0 ≡ v
   kept : (e : ℕ) → (In e zs → ⊥) → get_or m (C + e) 0 ≡ get_or l (C + e) 0
 
-module _ (C E : ℕ) (nx pv : ℕ → ℕ) (f b v x : ℕ) (l : List ℕ) (fit : C + E ≤ length l) (hx : x < E) (lf : Link nx pv f (C + x)) where
-  closed-one : Link nx pv (C + x) b → Closed C E nx pv f b v l (set l (C + x) v)
-  closed-one lb =
-      record {
-        zs = x ∷ [];
-        chain = (lf, lb);
-        inside = (hx, tt);
-        marked = λ e i. ⊎_elim (λ q. ap (λ (y : ℕ). get_or (set l (C + x) v) (C + y) 0) q ∙ get_or-set_same l (C + x) v 0 (omega arith)) (λ j. absurd j) i;
-        kept = λ e o. get_or-set_other l (C + x) (C + e) v 0 (λ q. o (inl (omega arith)));
-      }
-
-  closed-more : (y : ℕ) (m : List ℕ) → y < E → Link nx pv (C + y) b → Closed C E nx pv (C + x) (C + y) v (set (set l (C + x) v) (C + y) v) m → Closed C E nx pv f b v l m
-  closed-more y m hy lb r =
-      let la = set l (C + x) v in
-      let at_y : get_or (set la (C + y) v) (C + y) 0 ≡ v = get_or-set_same la (C + y) v 0 (omega (arith, length-set l (C + x) v)) in
-      let at_x : get_or (set la (C + y) v) (C + x) 0 ≡ v =
-      elim (ℕ_discrete x y) [
-        | yes q ↦ ap (λ (j : ℕ). get_or (set la (C + y) v) (C + j) 0) q ∙ at_y
-        | no q ↦ get_or-set_other la (C + y) (C + x) v 0 (omega arith) ∙ get_or-set_same l (C + x) v 0 (omega arith)
-      ] in
-      record {
-        zs = x ∷ (r.zs ++ (y ∷ []));
-        chain = (lf, chain_snoc C nx pv r.zs (C + x) y b r.chain lb);
-        inside = (hx, below_snoc E r.zs y hy r.inside);
-        marked = λ e i.
-            ⊎_elim
-            (λ j. r.marked e j)
-            (λ n. r.kept e n ∙ ⊎_elim
-            (λ q. ap (λ (w : ℕ). get_or (set la (C + y) v) (C + w) 0) q ∙ at_x)
-            (λ j. ⊎_elim (λ k. absurd (n k)) (λ q. ap (λ (w : ℕ). get_or (set la (C + y) v) (C + w) 0) q ∙ at_y) (snoc_in r.zs y e j))
-            i)
-            (in_or-not e r.zs);
-        kept = λ e o.
-            r.kept e (λ i. o (inr (in_snoc_old r.zs e y i)))
-            ∙ get_or-set_other la (C + y) (C + e) v 0 (λ q. o (inr (in_snoc_new r.zs e y (omega arith))))
-            ∙ get_or-set_other l (C + x) (C + e) v 0 (λ q. o (inl (omega arith)));
-      }
+-- one entry more, from which the other end went on
+closed-more : (C E : ℕ) (nx pv : ℕ → ℕ) (a b v x : ℕ) (l m : List ℕ) → C + E ≤ length l → x < E → Joined nx pv a (C + x) → Closed C E pv nx b (C + x) v (set l (C + x) v) m
+    → Closed C E nx pv a b v l m
+closed-more C E nx pv a b v x l m fit hx la r =
+    record {
+      zs = x ∷ turned r.zs;
+      chain = (la, chain-turned C pv nx r.zs b (C + x) r.chain);
+      inside = (hx, below-turned E r.zs r.inside);
+      marked = λ e i.
+          ⊎_elim
+          (λ q. ⊎_elim
+          (λ j. r.marked e j)
+          (λ o. r.kept e o ∙ ap (λ (y : ℕ). get_or (set l (C + x) v) (C + y) 0) q ∙ get_or-set_same l (C + x) v 0 (omega arith))
+          (in_or-not e r.zs))
+          (λ j. r.marked e (of_turned r.zs e j))
+          i;
+      kept = λ e o. r.kept e (λ j. o (inr (in_turned r.zs e j))) ∙ get_or-set_other l (C + x) (C + e) v 0 (λ q. o (inl (omega arith)));
+    }
 
 module _ (C E n : ℕ) (hn : n ≡ C + E) (s : List ℕ) where
-  closed : (k f b v : ℕ) (l : List ℕ) → f < n → b < n → n ≤ length l → (trail k n C s f b v l).met ≡ true → Closed C E (next s) (prev s) f b v l (trail k n C s f b v l).seen
+  closed : (k : ℕ) (link : Link) (a b v : ℕ) (l : List ℕ) → n ≤ length l → (trail k n C s link a b v l).met ≡ true
+      → Closed C E (leads s link) (leads s (opposite link)) a b v l (trail k n C s link a b v l).seen
   unfolding trail
-  closed zero f b v l hf hb hl = λ h. not-both (sym h)
-  closed (suc k) f b v l hf hb hl =
-      let a = ahead s n f in
-      let z = behind s n b in
-      let P : Trail → Type 0 = λ t. t.met ≡ true → Closed C E (next s) (prev s) f b v l t.seen in
-      let no-trail : (m : List ℕ) → P (ended false m) = λ m h. not-both (sym h) in
-      elim (ℕ_discrete a b) [
-        | yes q ↦
-            subst P (sym (trail-met n C s f b v l (suc k) (omega arith) q)) (λ h.
-            record {
-              zs = [];
-              chain = subst (λ (j : ℕ). Link (next s) (prev s) f j) q (stepped_link (next s) (prev s) n f (omega arith));
-              inside = tt;
-              marked = λ e i. absurd i;
-              kept = λ e o. refl;
-            })
-        | no q ↦
-            (elim (dec_lt a n) [
-              | no w ↦ subst P (sym (trail-off n C s f b v l q (suc k) (omega arith) (off-out n C a (omega arith)))) (no-trail l)
-              | yes w ↦
-                  (elim (dec_lt a C) [
-                    | yes u ↦ subst P (sym (trail-off n C s f b v l q (suc k) (omega arith) (off-class n C a u))) (no-trail l)
-                    | no u ↦
-                        (let i = off-not n C a (omega arith) w in
-                        let x = a - C in
-                        let ax : a ≡ C + x = omega arith in
-                        let lf : Link (next s) (prev s) f (C + x) = subst (λ (j : ℕ). Link (next s) (prev s) f j) ax (stepped_link (next s) (prev s) n f w) in
-                        elim (ℕ_discrete z a) [
-                          | yes r ↦
-                              (let lz = stepped_link (prev s) (next s) n b (omega arith) in
-                              let zx : z ≡ C + x = r ∙ ax in
-                              subst P (sym (trail-met-behind n C s f b v l q i (suc k) (omega arith) r)) (λ h.
-                              subst (λ (j : ℕ). Closed C E (next s) (prev s) f b v l (set l j v)) (sym ax)
-                              (closed-one C E (next s) (prev s) f b v x l (omega arith) (omega arith) lf (subst (λ (j : ℕ). Link (next s) (prev s) j b) zx (lz.1, lz.0)))))
-                          | no r ↦
-                              (elim (dec_lt z n) [
-                                | no m ↦ subst P (sym (trail-off-behind n C s f b v l q i r (suc k) (omega arith) (off-out n C z (omega arith)))) (no-trail (set l a v))
-                                | yes m ↦
-                                    (elim (dec_lt z C) [
-                                      | yes d ↦ subst P (sym (trail-off-behind n C s f b v l q i r (suc k) (omega arith) (off-class n C z d))) (no-trail (set l a v))
-                                      | no d ↦
-                                          (let o = off-not n C z (omega arith) m in
-                                          let y = z - C in
-                                          let zy : z ≡ C + y = omega arith in
-                                          let lz = stepped_link (prev s) (next s) n b m in
-                                          let l2 = set (set l a v) z v in
-                                          subst P (sym (trail_more n C s f b v l q i r k o)) (λ h.
-                                          let t = closed k a z v l2 w m (omega (arith, length-set l a v, length-set (set l a v) z v)) h in
-                                          closed-more C E (next s) (prev s) f b v x l (omega arith) (omega arith) lf y (trail k n C s a z v l2).seen (omega arith) (subst (λ (j : ℕ). Link (next s) (prev s) j b) zy (lz.1, lz.0))
-                                          (subst (λ (j : ℕ). Closed C E (next s) (prev s) (C + x) j v (set (set l (C + x) v) j v) (trail k n C s a z v l2).seen) zy
-                                          (subst (λ (j : ℕ). Closed C E (next s) (prev s) j z v (set (set l j v) z v) (trail k n C s a z v l2).seen) ax t))))
-                                    ])
-                              ])
-                        ])
-                  ])
-            ])
-      ]
+  closed zero link a b v l fit = λ h. not-both (sym h)
+  closed (suc k) link a b v l fit =
+      by_comes (λ t. t.met ≡ true → Closed C E (leads s link) (leads s (opposite link)) a b v l t.seen) C b l
+      (λ x. trail k n C s (opposite link) b x v (set l x v)) (linked s n a link)
+      (λ h. not-both (sym h))
+      (λ x q e h.
+      record {
+        zs = [];
+        chain = subst (λ (y : ℕ). Joined (leads s link) (leads s (opposite link)) a y) e (linked_joined s n a link x q).1;
+        inside = tt;
+        marked = λ e i. absurd i;
+        kept = λ e o. refl;
+      })
+      (λ x q w h.
+      let j = linked_joined s n a link x q in
+      let i : x ≡ C + (x - C) = omega arith in
+      let m = (trail k n C s (opposite link) b x v (set l x v)).seen in
+      let r = closed k (opposite link) b x v (set l x v) (omega (arith, length-set l x v)) h in
+      closed-more C E (leads s link) (leads s (opposite link)) a b v (x - C) l m (omega arith) (omega (arith, j.0))
+      (subst (λ (y : ℕ). Joined (leads s link) (leads s (opposite link)) a y) i j.1)
+      (subst (λ (y : ℕ). Closed C E (leads s (opposite link)) (leads s link) b y v (set l y v) m) i
+      (subst (λ (k : Link). Closed C E (leads s (opposite link)) (leads s k) b x v (set l x v) m) (opposite-twice link) r)))
 
-  met-chain : (k f b v : ℕ) (l zs : List ℕ) → f < n → b < n → Below E zs → Chain C (next s) (prev s) f zs b → length zs < k → (trail k n C s f b v l).met ≡ true
-  met-chain zero f b v l zs hf hb w p h = absurd (not-suc-le-zero h)
-  met-chain (suc k) f b v l [] hf hb w p h =
-      ap (λ (t : Trail). t.met) (trail-met n C s f b v l (suc k) (omega arith) (link_stepped (next s) (prev s) n f b p hb))
-  met-chain (suc k) f b v l (x ∷ []) hf hb w p h =
-      let a = ahead s n f in
-      let ax : a ≡ C + x = link_stepped (next s) (prev s) n f (C + x) p.0 (omega (arith, w.0)) in
-      let zx : behind s n b ≡ C + x = link_stepped (prev s) (next s) n b (C + x) (p.1.1, p.1.0) (omega (arith, w.0)) in
-      elim (ℕ_discrete a b) [
-        | yes q ↦ ap (λ (t : Trail). t.met) (trail-met n C s f b v l (suc k) (omega arith) q)
-        | no q ↦ ap (λ (t : Trail). t.met) (trail-met-behind n C s f b v l q (off-not n C a (omega arith) (omega (arith, w.0))) (suc k) (omega arith) (zx ∙ sym ax))
-      ]
-  met-chain (suc k) f b v l (x ∷ (u ∷ us)) hf hb w p h =
-      let a = ahead s n f in
-      let z = behind s n b in
-      let d = snoc_of u us in
-      let y = d.last in
-      let ws = d.init in
-      let c = snoc_chain C (next s) (prev s) ws (C + x) y b (subst (λ (t : List ℕ). Chain C (next s) (prev s) (C + x) t b) d.is p.1) in
-      let g = snoc_below E ws y (subst (λ (t : List ℕ). Below E t) d.is w.1) in
-      let ax : a ≡ C + x = link_stepped (next s) (prev s) n f (C + x) p.0 (omega (arith, w.0)) in
-      let zy : z ≡ C + y = link_stepped (prev s) (next s) n b (C + y) (c.1.1, c.1.0) (omega (arith, g.1)) in
-      let i = off-not n C a (omega arith) (omega (arith, w.0)) in
-      let short : length ws < k = omega (arith, ap (λ (t : List ℕ). length t) d.is, snoc_length ws y) in
-      elim (ℕ_discrete a b) [
-        | yes q ↦ ap (λ (t : Trail). t.met) (trail-met n C s f b v l (suc k) (omega arith) q)
-        | no q ↦
-            (elim (ℕ_discrete z a) [
-              | yes r ↦ ap (λ (t : Trail). t.met) (trail-met-behind n C s f b v l q i (suc k) (omega arith) r)
-              | no r ↦
-                  ap (λ (t : Trail). t.met) (trail_more n C s f b v l q i r k (off-not n C z (omega arith) (omega (arith, g.1))))
-                  ∙ met-chain k a z v (set (set l a v) z v) ws (omega (arith, w.0)) (omega (arith, g.1)) g.0
-                  (subst (λ (j : ℕ). Chain C (next s) (prev s) a ws j) (sym zy) (subst (λ (j : ℕ). Chain C (next s) (prev s) j ws (C + y)) (sym ax) c.0))
-                  short
-            ])
+  met-chain : (k : ℕ) (link : Link) (a b v : ℕ) (l zs : List ℕ) → b < n → Below E zs → Chain C (leads s link) (leads s (opposite link)) a zs b → length zs < k
+      → (trail k n C s link a b v l).met ≡ true
+  unfolding trail
+  met-chain zero link a b v l zs hb w p h = absurd (not-suc-le-zero h)
+  met-chain (suc k) link a b v l [] hb w p h = rw (joined-linked s n a link b p hb, eq-eqb b b refl)
+  met-chain (suc k) link a b v l (z ∷ zs) hb w p h =
+      let j = joined-linked s n a link (C + z) p.0 (omega (arith, w.0)) in
+      let turned-chain = chain-turned C (leads s link) (leads s (opposite link)) zs (C + z) b p.1 in
+      elim (ℕ_discrete (C + z) b) [
+        | yes q ↦ rw (j, eq-eqb (C + z) b q)
+        | no q ↦ rw (j, ne_eqb (C + z) b q, le-ltb (C + z) C (omega arith))
+            (met-chain k (opposite link) b (C + z) v (set l (C + z) v) (turned zs) (omega (arith, w.0)) (below-turned E zs w.1)
+            (subst (λ (m : Link). Chain C (leads s (opposite link)) (leads s m) b (turned zs) (C + z)) (sym (opposite-twice link)) turned-chain)
+            (omega (arith, length-turned zs)))
       ]
 
 -- ---- the marks
@@ -336,7 +244,7 @@ pub record Unmet (s : List ℕ) (k e v : ℕ) : Type 0 where
 pub length-marks_of : (s : List ℕ) (k : ℕ) → length (marks_of s k) ≡ 256
 unfolding marks_of unmarked
 length-marks_of s zero = length-replicate {A = ℕ} 256 0
-length-marks_of s (suc k) = length-trail (classes s + entries s) (classes s + entries s) (classes s) s k k (k + 1) (marks_of s k) ∙ length-marks_of s k
+length-marks_of s (suc k) = length-trail (2 * (classes s + entries s)) (classes s + entries s) (classes s) s Next k k (k + 1) (marks_of s k) ∙ length-marks_of s k
 
 unmarked-at : (s : List ℕ) (x : ℕ) → x < 256 → get_or (marks_of s 0) x 0 ≡ 0
 unfolding marks_of unmarked
@@ -348,7 +256,7 @@ module _ (s : List ℕ) (z : Sizes s) where
   closed_at k h q =
       let C = classes s in
       let E = entries s in
-      let c = closed C E (C + E) refl s (C + E) k k (k + 1) (marks_of s k) (omega arith) (omega arith) (omega (arith, length-marks_of s k, z.most, z.fewer)) q in
+      let c = closed C E (C + E) refl s (2 * (C + E)) Next k k (k + 1) (marks_of s k) (omega (arith, length-marks_of s k, z.most, z.fewer)) q in
       let few = pigeon E c.zs (chain_nodup C (next s) (prev s) c.zs k k h c.chain) c.inside in
       let i : c.zs ≡ list_of s k = sym (ap (map (λ x. x - C)) (chain-trace C s c.zs E k k h few c.chain) ∙ map_back C c.zs) in
       record {
@@ -380,20 +288,18 @@ module _ (s : List ℕ) (z : Sizes s) where
   meets_of k h p w =
       let C = classes s in
       let E = entries s in
-      met-chain C E (C + E) refl s (C + E) k k (k + 1) (marks_of s k) (list_of s k) (omega arith) (omega arith) w p
+      met-chain C E (C + E) refl s (2 * (C + E)) Next k k (k + 1) (marks_of s k) (list_of s k) (omega arith) w p
       (omega (arith, pigeon E (list_of s k) (chain_nodup C (next s) (prev s) (list_of s k) k k h p) w))
 
 -- ---- what the code's calls tell
 
-module _ (s seen : List ℕ) (n k : ℕ) (hn : n ≡ classes s + entries s) (q : seen ≡ marks_of s k) where
-  trail-at : trail n n (classes s) s k k (k + 1) seen ≡ trail_at s k (marks_of s k)
-  trail-at =
-      ap (λ (x : ℕ). trail x x (classes s) s k k (k + 1) seen) hn
-      ∙ ap (λ (l : List ℕ). trail_at s k l) q
+module _ (s seen : List ℕ) (n c k : ℕ) (hn : n ≡ classes s + entries s) (hc : c ≡ classes s) (q : seen ≡ marks_of s k) where
+  trail-at : trail (2 * n) n c s Next k k (k + 1) seen ≡ trail_at s k (marks_of s k)
+  trail-at = rw (hn, hc, q)
 
-  pub meets-is : (trail n n (classes s) s k k (k + 1) seen).met ≡ meets_at s k
+  pub meets-is : (trail (2 * n) n c s Next k k (k + 1) seen).met ≡ meets_at s k
   meets-is = ap (λ (t : Trail). t.met) trail-at
 
-  pub marks_are : (trail n n (classes s) s k k (k + 1) seen).seen ≡ marks_of s (k + 1)
+  pub marks_are : (trail (2 * n) n c s Next k k (k + 1) seen).seen ≡ marks_of s (k + 1)
   unfolding marks_of
   marks_are = ap (λ (t : Trail). t.seen) trail-at ∙ ap (marks_of s) (sym (add-one k))

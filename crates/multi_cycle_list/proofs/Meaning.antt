@@ -14,7 +14,7 @@ use Rattle.state.proofs.Seq.{each_same, map_each, get_d_each, set-each}
 use Rattle.multi_cycle_list.specs.Lists.{without, removed, first, last}
 use Rattle.multi_cycle_list.proofs.WholeTools.{Sizes, whole-sizes}
 use Rattle.multi_cycle_list.proofs.Lists.{In, of_without}
-use Rattle.multi_cycle_list.proofs.Chain.{Link, Chain, Binds}
+use Rattle.multi_cycle_list.proofs.Chain.{Joined, Chain, Binds}
 use Rattle.multi_cycle_list.proofs.Stores.{unbinds, binds, Same, unbind_same, bind_same}
 use Rattle.multi_cycle_list.proofs.Rep.{Rep, upd, upd_same, upd_other, rep_without, rep_front, rep_back, rep_next, rep_prev}
 use Rattle.multi_cycle_list.proofs.Sound.{Stands, linked_in, whole_around, sound, complete, list-is}
@@ -73,12 +73,12 @@ module _ (s : List ℕ) (e : ℕ) (h : whole_b s ≡ true) (he : e < entries s) 
   removed-is = sym (map_each (without e) (classes s) (list_of s))
 
   -- the entry alone
-  lone : Link (next (unbound s e)) (prev (unbound s e)) (node_of s e) (node_of s e)
+  lone : Joined (next (unbound s e)) (prev (unbound s e)) (node_of s e) (node_of s e)
   lone = ⊎_elim (λ w. absurd (gone w.0 w.1 w.2)) (λ l. l) (unbound-turned.stands.places e he)
 
   module _ (c : ℕ) (hc : c < classes s) where
     -- the entry between a and b, of which one is the class c
-    bound : (a b : ℕ) → a < classes s + entries s → b < classes s + entries s → Link (next (unbound s e)) (prev (unbound s e)) a b → (a ≡ c) ⊎ (b ≡ c)
+    bound : (a b : ℕ) → a < classes s + entries s → b < classes s + entries s → Joined (next (unbound s e)) (prev (unbound s e)) a b → (a ≡ c) ⊎ (b ≡ c)
         → Binds (next (unbound s e)) (prev (unbound s e)) (next (bind_b (unbound s e) (node_of s e) a b)) (prev (bind_b (unbound s e) (node_of s e) a b)) (node_of s e) a b
     bound a b ha hb cut t =
         let n = unbound-turned.same.len ∙ (whole-sizes s h).sized in

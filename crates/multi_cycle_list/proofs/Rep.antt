@@ -11,12 +11,12 @@ use lib.Dec.{eqb}
 use borrow.Author.Tests.{eq-eqb, ne_eqb}
 use Rattle.multi_cycle_list.specs.Lists.{without}
 use Rattle.multi_cycle_list.proofs.Lists.{In, Below, in_without, pigeon, below_of_without, in_snoc_old, in_snoc_new, below_snoc}
-use Rattle.multi_cycle_list.proofs.Chain.{Link, Chain, chain_nodup, out_at, out_in, back_at, back_in, Unbinds, link_kept, chain-without, Binds, kept, kept-chain, bound-front, bound-back}
+use Rattle.multi_cycle_list.proofs.Chain.{Joined, Chain, chain_nodup, out_at, out_in, back_at, back_in, Unbinds, link_kept, chain-without, Binds, kept, kept-chain, bound-front, bound-back}
 
 pub record Rep (C E : ℕ) (nx pv : ℕ → ℕ) (ls : ℕ → List ℕ) : Type 0 where
   pub chains : (c : ℕ) → c < C → Chain C nx pv c (ls c) c
   pub inside : (c : ℕ) → c < C → Below E (ls c)
-  pub places : (e : ℕ) → e < E → ((c : ℕ) × (c < C) × In e (ls c)) ⊎ Link nx pv (C + e) (C + e)
+  pub places : (e : ℕ) → e < E → ((c : ℕ) × (c < C) × In e (ls c)) ⊎ Joined nx pv (C + e) (C + e)
 
 -- f with v at q
 abbrev pub upd : (ℕ → List ℕ) → ℕ → List ℕ → ℕ → List ℕ
@@ -33,7 +33,7 @@ module _ (C E : ℕ) (nx pv : ℕ → ℕ) (ls : ℕ → List ℕ) (r : Rep C E 
   rep_length c h = pigeon E (ls c) (chain_nodup C nx pv (ls c) c c h (r.chains c h)) (r.inside c h)
 
   -- what holds of each class, each entry of a list and each lone entry holds of each node
-  each_node : (P : ℕ → Type 0) → ((c : ℕ) → c < C → P c) → ((c : ℕ) → c < C → (e : ℕ) → In e (ls c) → P (C + e)) → ((e : ℕ) → e < E → Link nx pv (C + e) (C + e) → P (C + e))
+  each_node : (P : ℕ → Type 0) → ((c : ℕ) → c < C → P c) → ((c : ℕ) → c < C → (e : ℕ) → In e (ls c) → P (C + e)) → ((e : ℕ) → e < E → Joined nx pv (C + e) (C + e) → P (C + e))
       → (i : ℕ) → i < C + E → P i
   each_node P f g k i h =
       elim (dec_lt i C) [
@@ -65,7 +65,7 @@ module _ (C E : ℕ) (nx pv : ℕ → ℕ) (ls : ℕ → List ℕ) (r : Rep C E 
         inside = λ c h. below_of_without E e (ls c) (r.inside c h);
         places = λ k h.
             elim (ℕ_discrete k e) [
-              | yes q ↦ inr (subst (λ (z : ℕ). Link nx' pv' (C + z) (C + z)) (sym q) (u.n-at, u.p-at))
+              | yes q ↦ inr (subst (λ (z : ℕ). Joined nx' pv' (C + z) (C + z)) (sym q) (u.n-at, u.p-at))
               | no q ↦
                   ⊎_elim
                   (λ w. inl (w.0, w.1, in_without e (ls w.0) k w.2 q))

@@ -9,7 +9,7 @@ use lib.ListN.{length, set, length-set}
 use lib.Seq.{get_or-set_same, get_or-set_other}
 use Rattle.multi_cycle_list.specs.Nodes.{classes, entries, next, prev}
 use Rattle.multi_cycle_list.specs.Inner.{Around, link_b, unbind_b, bind_b}
-use Rattle.multi_cycle_list.proofs.Chain.{Link, Unbinds, Binds}
+use Rattle.multi_cycle_list.proofs.Chain.{Joined, Unbinds, Binds}
 
 -- g is f with v at a
 pub record Stored (f g : ℕ → ℕ) (a v : ℕ) : Type 0 where
@@ -61,7 +61,7 @@ unbinds s i r back forth =
     }
 
 -- the lone node i between a and b
-pub binds : (s : List ℕ) (i a b : ℕ) → 3 + 2 * i < length s → 3 + 2 * a < length s → 3 + 2 * b < length s → Link (next s) (prev s) i i → Link (next s) (prev s) a b → a ≢ i
+pub binds : (s : List ℕ) (i a b : ℕ) → 3 + 2 * i < length s → 3 + 2 * a < length s → 3 + 2 * b < length s → Joined (next s) (prev s) i i → Joined (next s) (prev s) a b → a ≢ i
     → Binds (next s) (prev s) (next (bind_b s i a b)) (prev (bind_b s i a b)) i a b
 binds s i a b hi ha hb lone cut apart =
     let l = link_length s i b in

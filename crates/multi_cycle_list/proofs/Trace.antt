@@ -9,7 +9,7 @@ use borrow.Author.Tests.{lt-ltb, le-ltb}
 use lib.ListN.{length}
 use Rattle.multi_cycle_list.specs.Nodes.{next, prev, trace, trace_end}
 use Rattle.multi_cycle_list.proofs.Lists.{Below}
-use Rattle.multi_cycle_list.proofs.Chain.{Link, Chain}
+use Rattle.multi_cycle_list.proofs.Chain.{Joined, Chain}
 
 end_stop : (k c : ℕ) (s : List ℕ) (a : ℕ) → a < c → trace_end k c s a ≡ a
 unfolding trace_end
@@ -42,17 +42,17 @@ module _ (C : ℕ) (s : List ℕ) where
   chain-trace (e ∷ es) (suc k) a b h l p =
       ap (trace (suc k) C s) p.0.0 ∙ trace-cons k C s (C + e) (omega arith) ∙ ap (λ (t : List ℕ). (C + e) ∷ t) (chain-trace es k (C + e) b h (omega arith) p.1)
 
-  pub trace-chain : (n : ℕ) → ((i : ℕ) → i < n → (next s i < n) × (prev s (next s i) ≡ i)) → (k p a b : ℕ) → a < n → b < C → Link (next s) (prev s) p a → trace_end k C s a ≡ b
+  pub trace-chain : (n : ℕ) → ((i : ℕ) → i < n → (next s i < n) × (prev s (next s i) ≡ i)) → (k p a b : ℕ) → a < n → b < C → Joined (next s) (prev s) p a → trace_end k C s a ≡ b
       → Chain C (next s) (prev s) p (map (λ x. x - C) (trace k C s a)) b
   unfolding trace trace_end
-  trace-chain n links zero p a b ha hb l e = subst (λ (z : ℕ). Link (next s) (prev s) p z) e l
+  trace-chain n links zero p a b ha hb l e = subst (λ (z : ℕ). Joined (next s) (prev s) p z) e l
   trace-chain n links (suc k) p a b ha hb l e =
       elim (dec_lt a C) [
-        | yes w ↦ rw (trace_stop (suc k) C s a w) (subst (λ (z : ℕ). Link (next s) (prev s) p z) (sym (end_stop (suc k) C s a w) ∙ e) l)
+        | yes w ↦ rw (trace_stop (suc k) C s a w) (subst (λ (z : ℕ). Joined (next s) (prev s) p z) (sym (end_stop (suc k) C s a w) ∙ e) l)
         | no w ↦
             (let q : C + (a - C) ≡ a = omega arith in
             rw (trace-cons k C s a (omega arith)) (
-              subst (λ (z : ℕ). Link (next s) (prev s) p z) (sym q) l,
+              subst (λ (z : ℕ). Joined (next s) (prev s) p z) (sym q) l,
               subst (λ (z : ℕ). Chain C (next s) (prev s) z (map (λ x. x - C) (trace k C s (next s a))) b) (sym q)
                   (trace-chain n links k a (next s a) b (links a ha).0 hb (refl, (links a ha).1) (sym (end_cons k C s a (omega arith)) ∙ e)),
             ))

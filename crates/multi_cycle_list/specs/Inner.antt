@@ -1,9 +1,22 @@
 -- What the inner functions store, as the code goes. No contract of a public call cites this.
-use Rattle.std.specs.Prelude.{ℕ, zero, suc, ◌+◌, ◌-◌, ◌*◌, ◌<◌, ◌≡◌, List, Bool, true, false, cond, ◌&&◌, ◌||◌, not, length, get_or, set, replicate, eqb, ltb, leb}
+use Rattle.std.specs.Prelude.{ℕ, zero, suc, ◌+◌, ◌-◌, ◌*◌, ◌<◌, ◌≡◌, List, Bool, true, false, cond, ◌&&◌, ◌||◌, not, length, get_or, set, replicate, eqb, ltb, Option, Some, None}
 use Rattle.multi_cycle_list.specs.Lists.{count}
-use Rattle.multi_cycle_list.specs.declared.inner.MaybeEntry.{MaybeEntry}
-use Rattle.multi_cycle_list.specs.declared.inner.MaybeEntry.TheVariants.{Some, None}
+use Rattle.multi_cycle_list.specs.declared.link.Link.{Link}
+use Rattle.multi_cycle_list.specs.declared.link.Link.TheVariants.{Next, Prev}
 use Rattle.multi_cycle_list.specs.Nodes.{classes, entries, next, prev, list_of, whole_b}
+
+-- where node 0 has the link
+abbrev pub offset : Link → ℕ
+offset Next = 2
+offset Prev = 3
+
+abbrev pub opposite : Link → Link
+opposite Next = Prev
+opposite Prev = Next
+
+-- the node that the link of the node i leads to
+abbrev pub link_at : List ℕ → ℕ → Link → ℕ
+link_at s i link = get_or s (offset link + 2 * i) 0
 
 -- a node that the bytes have
 abbrev pub Fits : List ℕ → ℕ → Type 0
@@ -44,21 +57,14 @@ alone_to s zero = s
 alone_to s (suc k) = link_b (alone_to s k) k k
 
 -- the node n as an entry
-abbrev pub as_entry : List ℕ → ℕ → MaybeEntry
+abbrev pub as_entry : List ℕ → ℕ → Option ℕ
 as_entry s n = cond (ltb n (classes s)) None (Some (n - classes s))
 
 -- ---- the test of wholeness
 
--- where the link of the node i at out leads; n where it leads out of the n nodes or the link at back there does not come back
-abbrev pub linked : List ℕ → ℕ → ℕ → ℕ → ℕ → ℕ
-linked s n i out back = cond (ltb (get_or s (out + 2 * i) 0) n && eqb (get_or s (back + 2 * get_or s (out + 2 * i) 0) 0) i) (get_or s (out + 2 * i) 0) n
-
--- the node after i, and before i, or n
-abbrev pub ahead : List ℕ → ℕ → ℕ → ℕ
-ahead s n i = linked s n i 2 3
-
-abbrev pub behind : List ℕ → ℕ → ℕ → ℕ
-behind s n i = linked s n i 3 2
+-- where the link of the node i leads; none where it leads out of the n nodes, or the opposite link there does not come back
+abbrev pub linked : List ℕ → ℕ → ℕ → Link → Option ℕ
+linked s n i link = cond (ltb (link_at s i link) n && eqb (link_at s (link_at s i link) (opposite link)) i) (Some (link_at s i link)) None
 
 -- whether two ends met, and the marks
 pub record Trail : Type 0 where
@@ -68,26 +74,23 @@ pub record Trail : Type 0 where
 abbrev pub ended : Bool → List ℕ → Trail
 ended b l = record { met = b; seen = l }
 
--- no entry's node, of n nodes and c classes
-abbrev pub off : ℕ → ℕ → ℕ → Bool
-off n c x = ltb x c || leb n x
+-- whether one end, which comes to a node, meets the other, at b; from an entry's node it goes on
+abbrev pub comes : ℕ → ℕ → List ℕ → (ℕ → Trail) → Option ℕ → Trail
+comes c b l on None = ended false l
+comes c b l on (Some x) = cond (eqb x b) (ended true l) (cond (ltb x c) (ended false l) (on x))
 
--- from the node f ahead and from the node b behind at once, at most k steps, through entries alone, until they meet; each entry's node is marked with v
-unfoldable pub trail : ℕ → ℕ → ℕ → List ℕ → ℕ → ℕ → ℕ → List ℕ → Trail
-trail zero n c s f b v l = ended false l
-trail (suc k) n c s f b v l =
-    cond (eqb (ahead s n f) b) (ended true l)
-    (cond (off n c (ahead s n f)) (ended false l)
-    (cond (eqb (behind s n b) (ahead s n f)) (ended true (set l (ahead s n f) v))
-    (cond (off n c (behind s n b)) (ended false (set l (ahead s n f) v))
-    (trail k n c s (ahead s n f) (behind s n b) v (set (set l (ahead s n f) v) (behind s n b) v)))))
+-- from the node a along its link and from the node b along the opposite one in turn, at most k steps, through entries alone, until the two
+-- ends meet; each entry's node is marked with v
+unfoldable pub trail : ℕ → ℕ → ℕ → List ℕ → Link → ℕ → ℕ → ℕ → List ℕ → Trail
+trail zero n c s link a b v l = ended false l
+trail (suc k) n c s link a b v l = comes c b l (λ x. trail k n c s (opposite link) b x v (set l x v)) (linked s n a link)
 
 unfoldable pub unmarked : List ℕ
 unmarked = replicate 256 0
 
 -- the trail of the class k, on marks
 abbrev pub trail_at : List ℕ → ℕ → List ℕ → Trail
-trail_at s k l = trail (classes s + entries s) (classes s + entries s) (classes s) s k k (k + 1) l
+trail_at s k l = trail (2 * (classes s + entries s)) (classes s + entries s) (classes s) s Next k k (k + 1) l
 
 -- the marks of the classes below k: at each entry's node the class's number and one more
 unfoldable pub marks_of : List ℕ → ℕ → List ℕ

@@ -1,8 +1,6 @@
 -- A list queue in plain words: for each class the list of its entries, from the front; and what a change makes of these lists.
-use Rattle.std.specs.Prelude.{ℕ, suc, ◌+◌, ◌≤◌, ◌≡◌, List, [], ◌∷◌, ◌++◌, map, true, cond, length, get_or, set, replicate, eqb}
+use Rattle.std.specs.Prelude.{ℕ, suc, ◌+◌, ◌≤◌, ◌≡◌, List, [], ◌∷◌, ◌++◌, map, true, cond, length, get_or, set, replicate, eqb, Option, Some, None}
 use Rattle.state.specs.Lengths.{lists_allowed}
-use Rattle.multi_cycle_list.specs.declared.inner.MaybeEntry.{MaybeEntry}
-use Rattle.multi_cycle_list.specs.declared.inner.MaybeEntry.TheVariants.{Some, None}
 
 -- how many entries there are, and the list of each class
 pub record Lists : Type 0 where
@@ -61,11 +59,11 @@ abbrev pub row : Lists → ℕ → List ℕ
 row m c = get_or m.rows c []
 
 -- the first and the last of a list, if any
-abbrev pub first : List ℕ → MaybeEntry
+abbrev pub first : List ℕ → Option ℕ
 first [] = None
 first (x ∷ xs) = Some x
 
-abbrev pub last : List ℕ → MaybeEntry
+abbrev pub last : List ℕ → Option ℕ
 last [] = None
 last (x ∷ []) = Some x
 last (x ∷ (y ∷ ys)) = last (y ∷ ys)

@@ -1,28 +1,29 @@
 // `MultiCycleList`: nodes in cycles, each linked to the one after it and the one before.
-ghost use Rattle.std.specs.Prelude.{◌≡◌, ◌+◌, ◌*◌, ◌<◌, ◌≤◌, not, eqb, length, get_or};
+ghost use Rattle.std.specs.Prelude.{◌≡◌, ◌+◌, ◌*◌, ◌<◌, ◌≤◌, not, eqb, length};
 ghost use Rattle.multi_cycle_list.specs.Nodes.{next, prev};
-ghost use Rattle.multi_cycle_list.specs.Inner.{link_b, unbind_b, bind_b, after_b, before_b, alone_to, Fits, Around, Movable};
+ghost use Rattle.multi_cycle_list.specs.Inner.{link_at, link_b, unbind_b, bind_b, after_b, before_b, alone_to, Fits, Around, Movable};
 
-// The link of a node at `side`: at 2 to the node after it, at 3 to the one before.
-pub(crate) fn link_at(s: &[u8], node: usize, side: usize) -> usize
-    requires { (side ≤ 3) × (3 + 2 * node < length s.now) }
-    ensures { result ≡ get_or s.now (side + 2 * node) 0 }
+use crate::link::Link;
+
+pub(crate) fn link_at(s: &[u8], node: usize, link: Link) -> usize
+    requires { 3 + 2 * node < length s.now }
+    ensures { result ≡ link_at s.now node link }
 {
-    s[side + 2 * node] as usize
+    usize::from(s[link.offset() + 2 * node])
 }
 
 pub(crate) fn next(s: &[u8], node: usize) -> usize
     requires { 3 + 2 * node < length s.now }
     ensures { result ≡ next s.now node }
 {
-    link_at(s, node, 2)
+    link_at(s, node, Link::Next)
 }
 
 pub(crate) fn prev(s: &[u8], node: usize) -> usize
     requires { 3 + 2 * node < length s.now }
     ensures { result ≡ prev s.now node }
 {
-    link_at(s, node, 3)
+    link_at(s, node, Link::Prev)
 }
 
 pub(crate) fn is_bound(s: &[u8], node: usize) -> bool
@@ -37,19 +38,18 @@ fn link(s: &mut [u8], a: usize, b: usize)
     requires { Fits s.old a × Fits s.old b }
     ensures { s.new ≡ link_b s.old a b }
 {
-    s[3 + 2 * b] = a as u8;
-    s[2 + 2 * a] = b as u8;
+    s[Link::Prev.offset() + 2 * b] = a as u8;
+    s[Link::Next.offset() + 2 * a] = b as u8;
 }
 
 // Each node alone.
+#[tactic(auto, unfolding(crate::specs::Inner::alone_to))]
 pub(crate) fn alone(s: &mut [u8], n: usize)
     requires { (n ≤ 256) × (length s.old ≡ 2 + 2 * n) }
     ensures { s.new ≡ alone_to s.old n }
 {
-    let mut k = 0;
-    while k < n {
-        link(s, k, k);
-        k += 1;
+    for node in 0..n {
+        link(s, node, node);
     }
 }
 

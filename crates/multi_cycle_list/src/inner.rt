@@ -1,19 +1,13 @@
 // What the calls do once the bytes are known whole and the class and the entry are within the sizes. Inner functions: other crates call them, and they may have preconditions.
-ghost use Rattle.std.specs.Prelude.{◌≡◌, true, ◌+◌, ◌*◌, ◌<◌, ◌≤◌, ltb, length, drop, get_or};
+ghost use Rattle.std.specs.Prelude.{◌≡◌, true, ◌+◌, ◌*◌, ◌<◌, ltb, length, drop};
 ghost use Rattle.state.specs.Lengths.{lists_allowed, lists_length};
 ghost use Rattle.multi_cycle_list.specs.Lists.{first, last, row, counts, empty, without_entry, moved_front, moved_back};
 ghost use Rattle.multi_cycle_list.specs.Nodes.{whole_b, classes, entries, read};
 ghost use Rattle.multi_cycle_list.specs.Laid.{laid};
-ghost use Rattle.multi_cycle_list.specs.Inner.{as_entry, Fits};
-ghost use Rattle.multi_cycle_list.specs.declared.inner.MaybeEntry.TheVariants as maybe;
+ghost use Rattle.multi_cycle_list.specs.Inner.{as_entry, link_at, Fits};
 
 use crate::cycle::{alone, is_bound, move_after, move_before, unbind};
-
-#[derive(Clone, Copy)]
-pub enum MaybeEntry {
-    Some(u8),
-    None,
-}
+use crate::link::Link;
 
 // Every byte is written: each class empty, each entry unbound.
 pub fn inner_open(s: &mut [u8], classes: usize, entries: usize)
@@ -30,43 +24,38 @@ fn node(s: &[u8], entry: usize) -> usize
     requires { (whole_b s.now ≡ true) × (entry < entries s.now) }
     ensures { (result ≡ classes s.now + entry) × Fits s.now result }
 {
-    s[0] as usize + entry
+    usize::from(s[0]) + entry
 }
 
-// The node that the node `i` links to at `side`, as an entry; none where it is a class.
-fn entry_at(s: &[u8], i: usize, side: usize) -> MaybeEntry
-    requires { (side ≤ 3) × (3 + 2 * i < length s.now) }
-    ensures { result ≡ as_entry s.now (get_or s.now (side + 2 * i) 0) }
+// The node that the link leads to, as an entry; none where it is a class.
+fn entry_at(s: &[u8], node: usize, link: Link) -> Option<u8>
+    requires { 3 + 2 * node < length s.now }
+    ensures { result ≡ as_entry s.now (link_at s.now node link) }
 {
-    let c = s[0];
-    let n = s[side + 2 * i];
-    if n < c {
-        return MaybeEntry::None;
-    }
-    MaybeEntry::Some(n - c)
+    s[link.offset() + 2 * node].checked_sub(s[0])
 }
 
-pub fn inner_front(s: &[u8], class: usize) -> MaybeEntry
+pub fn inner_front(s: &[u8], class: usize) -> Option<u8>
     requires { (whole_b s.now ≡ true) × (class < classes s.now) }
     ensures { result ≡ first (row (read s.now) class) }
 {
-    entry_at(s, class, 2)
+    entry_at(s, class, Link::Next)
 }
 
 // The entry after the front, if any.
-pub fn inner_second(s: &[u8], class: usize, front: usize) -> MaybeEntry
-    requires { (whole_b s.now ≡ true) × ((class < classes s.now) × (first (row (read s.now) class) ≡ maybe.Some front)) }
+pub fn inner_second(s: &[u8], class: usize, front: usize) -> Option<u8>
+    requires { (whole_b s.now ≡ true) × ((class < classes s.now) × (first (row (read s.now) class) ≡ Some front)) }
     ensures { result ≡ first (drop 1 (row (read s.now) class)) }
 {
     let i = node(s, front);
-    entry_at(s, i, 2)
+    entry_at(s, i, Link::Next)
 }
 
-pub fn inner_back(s: &[u8], class: usize) -> MaybeEntry
+pub fn inner_back(s: &[u8], class: usize) -> Option<u8>
     requires { (whole_b s.now ≡ true) × (class < classes s.now) }
     ensures { result ≡ last (row (read s.now) class) }
 {
-    entry_at(s, class, 3)
+    entry_at(s, class, Link::Prev)
 }
 
 // Whether the entry stands in some class's list.

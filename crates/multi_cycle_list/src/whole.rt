@@ -2,96 +2,64 @@
 ghost use Rattle.std.specs.Prelude.{◌≡◌, true, ◌+◌, ◌*◌, ◌<◌, ◌≤◌, length};
 ghost use Rattle.state.specs.Seq.{all_b};
 ghost use Rattle.multi_cycle_list.specs.Nodes.{classes, entries, sizes_b, whole_b};
-ghost use Rattle.multi_cycle_list.specs.Inner.{linked, ahead, behind, trail, unmarked, marks_of, meets_at, placed_by, Whole};
+ghost use Rattle.multi_cycle_list.specs.declared.link.Link.TheVariants.{Next};
+ghost use Rattle.multi_cycle_list.specs.Inner.{linked, trail, unmarked, marks_of, meets_at, placed_by, Whole};
 
 use crate::cycle::{link_at, next, prev};
+use crate::link::Link;
 
+#[tactic(auto, unfolding(crate::specs::Nodes::sizes_b))]
 fn sizes(s: &[u8]) -> bool
     ensures { result ≡ sizes_b s.now }
 {
-    if s.len() < 2 {
-        return false;
-    }
-    let c = s[0] as usize;
-    let e = s[1] as usize;
-    if c < 1 {
-        return false;
-    }
-    if 32 < c {
-        return false;
-    }
-    if 224 < e {
-        return false;
-    }
-    s.len() == 2 + 2 * (c + e)
+    matches!(s, [classes, entries, ..] if (1..=32).contains(classes) && *entries <= 224 && s.len() == 2 + 2 * (usize::from(*classes) + usize::from(*entries)))
 }
 
-// Where the link of the node `i` at `out` leads; `n` where it leads out of the `n` nodes or the link at `back` there does not come back.
-fn linked(s: &[u8], n: usize, i: usize, out: usize, back: usize) -> usize
-    requires { (i < n) × ((length s.now ≡ 2 + 2 * n) × ((out ≤ 3) × (back ≤ 3))) }
-    ensures { result ≡ linked s.now n i out back }
+// The node that the node's link leads to; none where it leads out of the `n` nodes, or the opposite link there does not come back.
+fn linked(s: &[u8], n: usize, node: usize, link: Link) -> Option<usize>
+    requires { (node < n) × (length s.now ≡ 2 + 2 * n) }
+    ensures { result ≡ linked s.now n node link }
 {
-    let a = link_at(s, i, out);
-    if n <= a {
-        return n;
+    let to = link_at(s, node, link);
+    if to < n && link_at(s, to, link.opposite()) == node {
+        Some(to)
+    } else {
+        None
     }
-    if link_at(s, a, back) != i {
-        return n;
-    }
-    a
 }
 
-// The node after `i`, or `n`.
-fn ahead(s: &[u8], n: usize, i: usize) -> usize
-    requires { (i < n) × (length s.now ≡ 2 + 2 * n) }
-    ensures { result ≡ ahead s.now n i }
+// Goes from the class both ways in turn, through entries alone, until the two ends meet. Marks the entries' nodes.
+fn meets(s: &[u8], seen: &mut [u8], n: usize, classes: usize, class: usize) -> bool
+    requires { (class < classes) × ((classes ≤ 32) × ((classes ≤ n) × ((n ≤ 256) × ((length s.now ≡ 2 + 2 * n) × (length seen.old ≡ 256))))) }
+    ensures met { result ≡ (trail (2 * n) n classes s.now Next class class (class + 1) seen.old).met }
+    ensures marks { seen.new ≡ (trail (2 * n) n classes s.now Next class class (class + 1) seen.old).seen }
 {
-    linked(s, n, i, 2, 3)
-}
-
-// The node before `i`, or `n`.
-fn behind(s: &[u8], n: usize, i: usize) -> usize
-    requires { (i < n) × (length s.now ≡ 2 + 2 * n) }
-    ensures { result ≡ behind s.now n i }
-{
-    linked(s, n, i, 3, 2)
-}
-
-// Goes from the class `k` ahead and behind at once, through entries alone, until the two ends meet. Marks the entries' nodes.
-fn meets(s: &[u8], seen: &mut [u8], n: usize, c: usize, k: usize) -> bool
-    requires { (k < c) × ((c ≤ 32) × ((c ≤ n) × ((n ≤ 256) × ((length s.now ≡ 2 + 2 * n) × (length seen.old ≡ 256))))) }
-    ensures { (result ≡ (trail n n c s.now k k (k + 1) seen.old).met) × (seen.new ≡ (trail n n c s.now k k (k + 1) seen.old).seen) }
-{
-    let mark = (k + 1) as u8;
-    let mut front = k;
-    let mut back = k;
-    let mut left = n;
-    while 0 < left {
-        let a = ahead(s, n, front);
-        if a == back {
+    let mark = (class + 1) as u8;
+    let mut front = class;
+    let mut back = class;
+    for _ in 0..n {
+        let Some(ahead) = linked(s, n, front, Link::Next) else {
+            return false;
+        };
+        if ahead == back {
             return true;
         }
-        if a < c {
+        if ahead < classes {
             return false;
         }
-        if n <= a {
+        seen[ahead] = mark;
+        let Some(behind) = linked(s, n, back, Link::Prev) else {
             return false;
-        }
-        seen[a] = mark;
-        let b = behind(s, n, back);
-        if b == a {
+        };
+        if behind == ahead {
             return true;
         }
-        if b < c {
+        if behind < classes {
             return false;
         }
-        if n <= b {
-            return false;
-        }
-        seen[b] = mark;
-        front = a;
-        back = b;
-        left -= 1;
+        seen[behind] = mark;
+        front = ahead;
+        back = behind;
     }
     false
 }
@@ -100,42 +68,27 @@ fn cycles(s: &[u8], seen: &mut [u8], n: usize) -> bool
     requires { (classes s.now ≤ 32) × ((n ≡ classes s.now + entries s.now) × ((n ≤ 256) × ((length s.now ≡ 2 + 2 * n) × (seen.old ≡ unmarked)))) }
     ensures { (result ≡ all_b (classes s.now) (meets_at s.now)) × (result ≡ true → seen.new ≡ marks_of s.now (classes s.now)) }
 {
-    let c = s[0] as usize;
-    let mut k: usize = 0;
-    while k < c {
-        if meets(s, seen, n, c, k) {} else {
+    let classes = usize::from(s[0]);
+    for class in 0..classes {
+        if !meets(s, seen, n, classes, class) {
             return false;
         }
-        k += 1;
     }
     true
 }
 
-fn is_placed(s: &[u8], seen: &[u8], x: usize) -> bool
-    requires { (3 + 2 * x < length s.now) × (x < length seen.now) }
-    ensures { result ≡ placed_by s.now seen.now x }
+fn is_placed(s: &[u8], seen: &[u8], node: usize) -> bool
+    requires { (3 + 2 * node < length s.now) × (node < length seen.now) }
+    ensures { result ≡ placed_by s.now seen.now node }
 {
-    if seen[x] != 0 {
-        return true;
-    }
-    if next(s, x) != x {
-        return false;
-    }
-    prev(s, x) == x
+    seen[node] != 0 || next(s, node) == node && prev(s, node) == node
 }
 
-fn all_placed(s: &[u8], seen: &[u8], c: usize, e: usize) -> bool
-    requires { (c + e ≤ 256) × ((length s.now ≡ 2 + 2 * (c + e)) × (length seen.now ≡ 256)) }
-    ensures { result ≡ all_b e (λ k. placed_by s.now seen.now (c + k)) }
+fn all_placed(s: &[u8], seen: &[u8], classes: usize, entries: usize) -> bool
+    requires { (classes + entries ≤ 256) × ((length s.now ≡ 2 + 2 * (classes + entries)) × (length seen.now ≡ 256)) }
+    ensures { result ≡ all_b entries (λ k. placed_by s.now seen.now (classes + k)) }
 {
-    let mut i = 0;
-    while i < e {
-        if is_placed(s, seen, c + i) {} else {
-            return false;
-        }
-        i += 1;
-    }
-    true
+    (0..entries).all(|entry| is_placed(s, seen, classes + entry))
 }
 
 // Inner: also marks each bound entry's node with its class's number and one more.
@@ -143,16 +96,12 @@ pub fn whole_marked(s: &[u8], seen: &mut [u8]) -> bool
     requires { seen.old ≡ unmarked }
     ensures { Whole s.now seen.new result }
 {
-    if sizes(s) {} else {
+    if !sizes(s) {
         return false;
     }
-    let c = s[0] as usize;
-    let e = s[1] as usize;
-    let n = c + e;
-    if cycles(s, seen, n) {} else {
-        return false;
-    }
-    all_placed(s, seen, c, e)
+    let classes = usize::from(s[0]);
+    let entries = usize::from(s[1]);
+    cycles(s, seen, classes + entries) && all_placed(s, seen, classes, entries)
 }
 
 pub fn whole(s: &[u8]) -> bool

@@ -11,8 +11,7 @@ use Rattle.state.specs.Result.{Result, refuse}
 use Rattle.state.proofs.Tests.{by_cond}
 use Rattle.multi_cycle_list.specs.Lists as lists
 use Rattle.multi_cycle_list.specs.Nodes as nodes
-use Rattle.multi_cycle_list.specs.declared.inner.MaybeEntry.{MaybeEntry}
-use Rattle.multi_cycle_list.specs.declared.inner.MaybeEntry.TheVariants.{Some, None}
+use Rattle.std.specs.Prelude.{Option, Some, None}
 use Rattle.multi_class_queue.specs.Calls as mcq
 use Rattle.multi_class_queue.specs.declared.Answer as list
 use Rattle.multi_class_queue.specs.declared.Answer.TheVariants as list-says
@@ -29,7 +28,7 @@ use Rattle.refusals.proofs.Ends.{Ends, refuses, answers, either, on-bytes, zero_
 
 -- ---- the numbers of answers
 
-named-zero : (e : MaybeEntry) → number (list_answer (mcq.named e)) ≡ 0
+named-zero : (e : Option ℕ) → number (list_answer (mcq.named e)) ≡ 0
 named-zero (Some x) = zero_number _ _ _
 named-zero None = zero_number _ _ _
 
@@ -49,7 +48,7 @@ key-zero free = zero_number _ _ _
 key-zero (holds k v) = zero_number _ _ _
 key-zero (spent k) = zero_number _ _ _
 
-key-at-zero : (m : Keys) (e : MaybeEntry) → number (key_answer (iq.key_at m e)) ≡ 0
+key-at-zero : (m : Keys) (e : Option ℕ) → number (key_answer (iq.key_at m e)) ≡ 0
 key-at-zero m (Some i) = key-zero (slot m i)
 key-at-zero m None = zero_number _ _ _
 

@@ -9,8 +9,7 @@ use borrow.Rule.Slice.PartMut.{put_mid}
 use Rattle.state.specs.Result.{Bytes}
 use Rattle.multi_cycle_list.specs.Lists as lists
 use Rattle.multi_cycle_list.specs.Lists.{Lists, first, row, without_entry}
-use Rattle.multi_cycle_list.specs.declared.inner.MaybeEntry.{MaybeEntry}
-use Rattle.multi_cycle_list.specs.declared.inner.MaybeEntry.TheVariants as maybe
+use Rattle.std.specs.Prelude.{Option, Some}
 use Rattle.multi_cycle_list.specs.Nodes as nodes
 use Rattle.multi_cycle_list.specs.Laid as lists_laid
 use Rattle.multi_cycle_list.proofs.Lists.{without-none, in_count, without-same, count_same}
@@ -65,7 +64,7 @@ joined s t A I Q h =
 
 -- ---- the entries, one by one
 
-pub record Taking (b s slots gone : List ℕ) (front : MaybeEntry) : Type 0 where
+pub record Taking (b s slots gone : List ℕ) (front : Option ℕ) : Type 0 where
   pub meaning : Registry
   pub run : Running (read b) meaning slots gone
   pub parts : Consists b s (active_part b) (inactive_part b) (lists_laid.laid (queue_of meaning))
@@ -78,7 +77,7 @@ module _ (b : List ℕ) (y : Bytes b) (h : whole_b b ≡ true) where
   few : length (read b).inactive ≤ 128
   few = omega (arith, at_most (read b) (read-facts b h))
 
-  pub taking_none : (read b).clean_up ≡ [] → (read b).last_gap ≡ false → (slots gone : List ℕ) → slots ≡ replicate 128 255 → gone ≡ replicate 256 0 → (front : MaybeEntry) → front ≡ first (row (nodes.read (queue_part b)) 1)
+  pub taking_none : (read b).clean_up ≡ [] → (read b).last_gap ≡ false → (slots gone : List ℕ) → slots ≡ replicate 128 255 → gone ≡ replicate 256 0 → (front : Option ℕ) → front ≡ first (row (nodes.read (queue_part b)) 1)
       → Taking b b slots gone front
   taking_none c f slots gone qs qg front q =
       subst (λ (z : List ℕ). Taking b b z gone front) (sym qs)
@@ -91,7 +90,7 @@ module _ (b : List ℕ) (y : Bytes b) (h : whole_b b ≡ true) where
         next = q ∙ ap (λ (z : Lists). first (row z 1)) (queue-read b h);
       }))
 
-  module _ (s slots gone : List ℕ) (front : MaybeEntry) (k : Taking b s slots gone front) where
+  module _ (s slots gone : List ℕ) (front : Option ℕ) (k : Taking b s slots gone front) where
     abbrev m : Registry
     m = k.meaning
 
@@ -106,10 +105,10 @@ module _ (b : List ℕ) (y : Bytes b) (h : whole_b b ≡ true) where
         let z = queues.out-sizes 2 128 (lists_laid.arcs 2 0 (m.clean_up ∷ (m.activation ∷ []))) in
         record { whole = ap nodes.whole_b k.parts.queue ∙ queues.laid_whole (queue_of m) valid; classes = ap nodes.classes k.parts.queue ∙ z.0; entries = ap nodes.entries k.parts.queue ∙ z.1 }
 
-    pub front-then : (e : ℕ) → front ≡ maybe.Some e → first (row (nodes.read (queue_part s)) 1) ≡ maybe.Some e
+    pub front-then : (e : ℕ) → front ≡ Some e → first (row (nodes.read (queue_part s)) 1) ≡ Some e
     front-then e q = ap (λ (z : Lists). first (row z 1)) queue-then ∙ sym k.next ∙ q
 
-    pub front-small : (e : ℕ) → front ≡ maybe.Some e → e < 128
+    pub front-small : (e : ℕ) → front ≡ Some e → e < 128
     front-small e q = omega (arith, front_in (queue_part s) 1 queue-whole.whole (omega (arith, queue-whole.classes)) e (front-then e q), queue-whole.entries)
 
     pub tree_long : length (inactive_part s) ≡ 385
@@ -118,19 +117,7 @@ module _ (b : List ℕ) (y : Bytes b) (h : whole_b b ≡ true) where
     pub tree_few : tree.size (inactive_part s) ≤ 128
     tree_few = omega (arith, ap tree.size k.parts.inactive, (known b h).inactive-few)
 
-    pub taken : Taken b s slots gone
-    taken = record {
-      meaning = m;
-      steps = k.run.steps;
-      active = k.run.active;
-      inactive = k.run.inactive;
-      same_slots = k.run.same_slots;
-      same_flag = k.run.clear ∙ sym k.run.clear₀;
-      same_walk = k.run.same_walk;
-      parts = k.parts;
-    }
-
-    module _ (e : ℕ) (qe : front ≡ maybe.Some e) (start : List ℕ) (st : Starts b start) (j : ℕ) (small : j < 128)
+    module _ (e : ℕ) (qe : front ≡ Some e) (start : List ℕ) (st : Starts b start) (j : ℕ) (small : j < 128)
         (fits : (get_or start e 0 < 128) × Free (inactive_part s) slots j (subject_at (inactive_part s) (get_or start e 0)))
       where
         abbrev I : List ℕ
@@ -180,7 +167,7 @@ module _ (b : List ℕ) (y : Bytes b) (h : whole_b b ≡ true) where
             ∙ ap (λ (c : List ℕ). two c q) (k.run.idle ∙ sym run-then.idle)
             ∙ ap (λ (a : List ℕ). two m'.clean_up a) (sym activation-then)
 
-        pub taking_more : (p : List ℕ) → p ≡ lists_laid.laid (without_entry e (nodes.read (queue_part s))) → (front' : MaybeEntry) → front' ≡ first (drop 1 (row (nodes.read (queue_part s)) 1))
+        pub taking_more : (p : List ℕ) → p ≡ lists_laid.laid (without_entry e (nodes.read (queue_part s))) → (front' : Option ℕ) → front' ≡ first (drop 1 (row (nodes.read (queue_part s)) 1))
             → Taking b (put_mid 770 262 s p) (set slots j e) (set gone e 1) front'
         taking_more p qp front' qf =
             let is : p ≡ lists_laid.laid (queue_of m') = qp ∙ ap (λ (z : Lists). lists_laid.laid z) queue-is-then in
@@ -193,7 +180,7 @@ module _ (b : List ℕ) (y : Bytes b) (h : whole_b b ≡ true) where
               next = qf ∙ ap (λ (z : Lists). first (drop 1 (row z 1))) queue-then ∙ ap first (sym activation-then);
             }
 
-        pub shorter : (p : List ℕ) → p ≡ lists_laid.laid (without_entry e (nodes.read (queue_part s))) → (front' : MaybeEntry) → front' ≡ first (drop 1 (row (nodes.read (queue_part s)) 1))
+        pub shorter : (p : List ℕ) → p ≡ lists_laid.laid (without_entry e (nodes.read (queue_part s))) → (front' : Option ℕ) → front' ≡ first (drop 1 (row (nodes.read (queue_part s)) 1))
             → length (row (nodes.read (queue_part (put_mid 770 262 s p))) 1) < length (row (nodes.read (queue_part s)) 1)
         unfolding taking_more
         shorter p qp front' qf =

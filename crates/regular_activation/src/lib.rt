@@ -12,7 +12,7 @@ ghost use Rattle.regular_activation.specs.Inner.{Activated, Starts, Free, Consis
 
 use entry_merge::{merge, remove_marked};
 use entry_tree::{entry_at, len, subject_at};
-use multi_cycle_list::inner::{MaybeEntry, inner_front, inner_remove, inner_second};
+use multi_cycle_list::inner::{inner_front, inner_remove, inner_second};
 use state::copy;
 
 // ---- where the entries of a subject begin
@@ -140,21 +140,16 @@ fn take_known(s: &mut [u8], start: &[u8], slots: &mut [u8], gone: &mut [u8])
 {
     let mut next = [0u8; 128];
     let mut front = inner_front(&s[770..1032], 1);
-    loop {
-        match front {
-            MaybeEntry::Some(e) => {
-                let j = slot_for(&s[385..770], start, &next, slots, e);
-                if 127 < j {
-                    break;
-                }
-                front = inner_second(&s[770..1032], 1, e as usize);
-                inner_remove(&mut s[770..1032], e as usize);
-                slots[j] = e;
-                gone[e as usize] = 1;
-                next[start[e as usize] as usize] = (j + 1) as u8;
-            }
-            MaybeEntry::None => break,
+    while let Some(e) = front {
+        let j = slot_for(&s[385..770], start, &next, slots, e);
+        if 127 < j {
+            break;
         }
+        front = inner_second(&s[770..1032], 1, e as usize);
+        inner_remove(&mut s[770..1032], e as usize);
+        slots[j] = e;
+        gone[e as usize] = 1;
+        next[start[e as usize] as usize] = (j + 1) as u8;
     }
 }
 

@@ -18,7 +18,7 @@ use Rattle.state.proofs.Filled.{zero-bytes}
 use Rattle.state.proofs.Tests.{by_cond, and_r}
 use Rattle.multi_cycle_list.specs.Lists as lists
 use Rattle.multi_cycle_list.specs.Lists.{Lists, without_entry, moved_back, empty}
-use Rattle.multi_cycle_list.specs.declared.inner.MaybeEntry.TheVariants as maybe
+use Rattle.std.specs.Prelude.{Some, None}
 use Rattle.multi_cycle_list.specs.Nodes as nodes
 use Rattle.multi_cycle_list.specs.Laid as lists_laid
 use Rattle.multi_cycle_list.proofs.Lists.{without-none, in_count, without-same, count_same, count-gone, count_kept}
@@ -174,11 +174,11 @@ any_some e l h = ltb-true 0 (count (is_entry e) l) h
 
 -- ---- the front of a queue
 
-pub first_some : (l : List ℕ) (e : ℕ) → lists.first l ≡ maybe.Some e → l ≡ e ∷ drop 1 l
+pub first_some : (l : List ℕ) (e : ℕ) → lists.first l ≡ Some e → l ≡ e ∷ drop 1 l
 first_some [] e q = absurd (let z : ◌≡◌ {A = ℕ} 0 1 = cc in omega arith)
 first_some (x ∷ l) e q = let z : x ≡ e = cc in ap (λ (k : ℕ). k ∷ l) z
 
-pub first-none : (l : List ℕ) → lists.first l ≡ maybe.None → l ≡ []
+pub first-none : (l : List ℕ) → lists.first l ≡ None → l ≡ []
 first-none [] q = refl
 first-none (x ∷ l) q = absurd (let z : ◌≡◌ {A = ℕ} 0 1 = cc in omega arith)
 

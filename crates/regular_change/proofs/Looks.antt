@@ -10,7 +10,7 @@ use lib.ListN.{length, drop}
 use borrow.Author.Tests.{lt-ltb, le-ltb, le-leb, lt-leb, eq-eqb, ne_eqb}
 use Rattle.multi_cycle_list.specs.Lists as lists
 use Rattle.multi_cycle_list.specs.Lists.{first}
-use Rattle.multi_cycle_list.specs.declared.inner.MaybeEntry.TheVariants.{Some}
+use Rattle.std.specs.Prelude.{Some}
 use Rattle.multi_cycle_list.specs.Nodes as nodes
 use Rattle.entry_tree.specs.Pairs.{Pair, Place, is_entry, has_entry, place_of}
 use Rattle.entry_tree.specs.Places as tree

@@ -1,7 +1,6 @@
 // The changes: each leaves the bytes of the changed meaning.
 ghost use Rattle.std.specs.Prelude.{◌≡◌, true, false, [], ◌+◌, ◌<◌, length, replicate};
 ghost use Rattle.multi_cycle_list.specs.Lists.{first};
-ghost use Rattle.multi_cycle_list.specs.declared.inner.MaybeEntry.TheVariants as maybe;
 ghost use Rattle.entry_tree.specs.Pairs.{is_entry, has_entry, place_of};
 ghost use Rattle.entry_tree.specs.Places.{size, entry_at};
 ghost use Rattle.entry_tree.specs.Inner.{position};
@@ -106,7 +105,7 @@ pub fn leave_active(s: &mut [u8], entry: u8, i: usize, gap: Gap, n: usize)
 
 // The front of the clean-up queue.
 pub fn pop_clean_up_queue(s: &mut [u8], entry: u8) -> Popped
-    requires { (whole_b s.old ≡ true) × (first (read s.old).clean_up ≡ maybe.Some «entry») }
+    requires { (whole_b s.old ≡ true) × (first (read s.old).clean_up ≡ Some «entry») }
     ensures { (result ≡ (inner_step (read s.old)).says) × (s.new ≡ laid (inner_step (read s.old)).then s.old) }
 {
     let i = position(&s[0..385], entry);
@@ -127,7 +126,7 @@ pub fn pop_clean_up_last(s: &mut [u8]) -> Popped
 
 // The front of the activation queue.
 pub fn pop_registration_queue(s: &mut [u8], entry: u8) -> Popped
-    requires { (whole_b s.old ≡ true) × (((read s.old).clean_up ≡ []) × (((read s.old).last_gap ≡ false) × (first (read s.old).activation ≡ maybe.Some «entry»))) }
+    requires { (whole_b s.old ≡ true) × (((read s.old).clean_up ≡ []) × (((read s.old).last_gap ≡ false) × (first (read s.old).activation ≡ Some «entry»))) }
     ensures { (result ≡ (inner_step (read s.old)).says) × (s.new ≡ laid (inner_step (read s.old)).then s.old) }
 {
     let i = position(&s[385..770], entry);

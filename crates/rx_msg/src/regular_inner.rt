@@ -10,7 +10,7 @@ ghost use Rattle.regular_change.specs.Inner as inner;
 
 use entry_tree::position;
 use entry_tree::walk::{next_on, set_walk, start_on};
-use multi_cycle_list::inner::{MaybeEntry, inner_front};
+use multi_cycle_list::inner::inner_front;
 use regular::{Answer, Popped, whole};
 use regular_activation::activate_known;
 use regular_change::change::{
@@ -127,8 +127,8 @@ fn pop_registration(s: &mut [u8]) -> Popped
 {
     let front = inner_front(&s[770..1032], 1);
     match front {
-        MaybeEntry::Some(e) => pop_registration_queue(s, e),
-        MaybeEntry::None => Popped::Nothing,
+        Some(e) => pop_registration_queue(s, e),
+        None => Popped::Nothing,
     }
 }
 
@@ -139,8 +139,8 @@ fn poll_pop_filter_update(s: &mut [u8]) -> Popped
 {
     let front = inner_front(&s[770..1032], 0);
     match front {
-        MaybeEntry::Some(e) => pop_clean_up_queue(s, e),
-        MaybeEntry::None => {
+        Some(e) => pop_clean_up_queue(s, e),
+        None => {
             if s[1034] != 0 {
                 return pop_clean_up_last(s);
             }

@@ -8,8 +8,12 @@ use native.Mathlib.Omega.{arith}
 use native.Mathlib.Decide.{ℕ_discrete}
 use native.Mathlib.Nat.{not-suc-le-zero}
 use lib.ListN.{length, get_or, set}
+use Rattle.std.specs.List.{list_all, range_with_len}
+use Rattle.std.proofs.Common.{zero-add}
+use Rattle.std.proofs.lemmas.List.FromFn.{get_or-range_with_len, length-range_with_len}
+use Rattle.std.proofs.lemmas.List.Recursion.{and_at, and_from_places}
 use Rattle.state.specs.Seq.{all_b, some_b, each}
-use Rattle.state.proofs.Tests.{and_l, and_r, or_split, not-both}
+use Rattle.state.proofs.Tests.{and_l, and_r, or_split, not-both, same_test}
 
 -- ---- all
 
@@ -27,6 +31,15 @@ pub all-at : (n : ℕ) (f : ℕ → Bool) → all_b n f ≡ true → (k : ℕ) �
 unfolding all_b
 all-at zero f h k l = absurd (not-suc-le-zero l)
 all-at (suc n) f h k l = elim (ℕ_discrete k n) [ yes e ↦ rw e (and_l _ _ h) | no ne ↦ all-at n f (and_r (f n) _ h) k (omega arith) ]
+
+-- the test of an iterator over 0..n
+pub all_over_range : (n : ℕ) (f : ℕ → Bool) → list_all f (range_with_len 0 n) ≡ all_b n f
+all_over_range n f =
+    let xs = range_with_len 0 n in
+    let at : (k : ℕ) → k < n → get_or xs k 0 ≡ k = λ k l. get_or-range_with_len 0 n k 0 l ∙ zero-add k in
+    same_test (list_all f xs) (all_b n f)
+    (λ h. all_true n f (λ k l. ap f (sym (at k l)) ∙ and_at (list_all f) f refl (λ _ _. refl) xs k 0 (omega (arith, length-range_with_len 0 n)) h))
+    (λ h. and_from_places (list_all f) f refl (λ _ _. refl) xs 0 (λ k l. let i : k < n = omega (arith, length-range_with_len 0 n) in ap f (at k i) ∙ all-at n f h k i))
 
 -- ---- some
 

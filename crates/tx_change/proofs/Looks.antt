@@ -11,7 +11,7 @@ use lib.ListN.{get_or, set}
 use lib.Seq.{get_or-set_other, set-get_or}
 use borrow.Author.Tests.{lt-ltb, le-ltb, eq-eqb, ne_eqb}
 use Rattle.multi_cycle_list.specs.Lists.{first}
-use Rattle.multi_cycle_list.specs.declared.inner.MaybeEntry.TheVariants.{Some as SomeEntry, None as NoEntry}
+use Rattle.std.specs.Prelude.{Some, None}
 use Rattle.emcyphal_core.specs.Sets.{has}
 use Rattle.tx_queue.specs.TxQueue.{sets_of}
 use Rattle.tx_queue.specs.Bytes.{ready_at, started_at, flag_at, pick_of, read}

@@ -13,7 +13,7 @@ ghost use Rattle.tx_change.specs.Inner.{with_queues, with_sets, framed, unframed
 
 use emcyphal_core::{Priority, PrioritySet};
 use format::TailByte;
-use multi_cycle_list::inner::{MaybeEntry, inner_front, inner_move_back, inner_open, inner_remove};
+use multi_cycle_list::inner::{inner_front, inner_move_back, inner_open, inner_remove};
 use state::fill;
 use tx_queue::{Answer, first_queue, is_masked, mtu_ok, place, place_at};
 
@@ -162,8 +162,8 @@ fn front(s: &[u8], k: u8) -> u8
     ensures { result ≡ picked k (read s.now) }
 {
     match inner_front(&s[0..290], k as usize) {
-        MaybeEntry::Some(e) => e,
-        MaybeEntry::None => 0,
+        Some(e) => e,
+        None => 0,
     }
 }
 

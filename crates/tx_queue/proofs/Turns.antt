@@ -11,8 +11,7 @@ use lib.Seq.{get_or-take, get_or-drop, drop-cons}
 use borrow.Author.Tests.{eq-eqb, ne_eqb}
 use Rattle.multi_cycle_list.specs.Lists as lists
 use Rattle.multi_cycle_list.specs.Nodes as nodes
-use Rattle.multi_cycle_list.specs.declared.inner.MaybeEntry.{MaybeEntry}
-use Rattle.multi_cycle_list.specs.declared.inner.MaybeEntry.TheVariants as entry
+use Rattle.std.specs.Prelude.{is_some}
 use Rattle.emcyphal_core.specs.Sets.{has, first_of}
 use Rattle.tx_queue.specs.TxQueue.{queue_of, place, filled, first_from, first_queue, mtu_b, pick_b}
 use Rattle.tx_queue.specs.Bytes.{queue_part, ready_at, started_at, flag_at, sets_at, read, sizes_b}
@@ -28,21 +27,9 @@ flagged s e q = rw (ne_eqb (flag_at s e) 0 q)
 
 -- ---- the queue that a pick takes
 
-pub has-entry : {e : ℕ} (l : List ℕ) → lists.first l ≡ entry.Some e → true ≡ filled l
-has-entry [] q = sym (ap is_some q)
-  where
-    is_some : MaybeEntry → Bool
-    is_some (entry.Some e) = true
-    is_some entry.None = false
-has-entry (x ∷ l) q = refl
-
-pub has-none : (l : List ℕ) → lists.first l ≡ entry.None → false ≡ filled l
-has-none [] q = refl
-has-none (x ∷ l) q = ap is_none q
-  where
-    is_none : MaybeEntry → Bool
-    is_none (entry.Some e) = false
-    is_none entry.None = true
+pub first-filled : (l : List ℕ) → is_some (lists.first l) ≡ filled l
+first-filled [] = refl
+first-filled (x ∷ l) = refl
 
 -- as far as the queue k
 abbrev pub Reached : ℕ → List ℕ → ℕ → Type 0

@@ -13,7 +13,7 @@ ghost use Rattle.tx_queue.specs.Bytes.{queue_part, sets_at, sizes_b, whole_b, re
 ghost use Rattle.tx_queue.specs.Inner.{named_b};
 
 use emcyphal_core::{Priority, PrioritySet};
-use multi_cycle_list::inner::{MaybeEntry, inner_front};
+use multi_cycle_list::inner::inner_front;
 use multi_cycle_list::whole::whole_marked;
 
 // An answer of a call. `Accepted` has the wake flag; `Picked`, the entry and its priority; `Settled`, the entry that had been picked and
@@ -69,10 +69,7 @@ fn is_filled(q: &[u8], class: usize) -> bool
     requires { (nodes.whole_b q.now ≡ true) × (class < nodes.classes q.now) }
     ensures { result ≡ filled (row (nodes.read q.now) class) }
 {
-    match inner_front(q, class) {
-        MaybeEntry::Some(_) => true,
-        MaybeEntry::None => false,
-    }
+    inner_front(q, class).is_some()
 }
 
 // The first filled queue of a masked priority; 16 if none.

@@ -1,11 +1,5 @@
-use mathlib.Core.Path.{ap, ◌∙◌}
-use Rattle.multi_cycle_list.specs.Lists.{first}
 use Rattle.index_entries.proofs.Acts.{lent_class}
-use Rattle.index_queue.proofs.Calls.{lent_row}
 use Rattle.index_queue.proofs.first_of.Goals as goal
 
 pub inner_front-requires : goal.inner_front-requires
 inner_front-requires c = lent_class c.args.s.now c.requires.0 _ c.lists_end-e.ensures.0 c.args.class c.requires.1
-
-pub returns : goal.returns
-returns c = c.inner_front.ensures ∙ ap first (lent_row c.args.s.now c.requires.0 _ c.lists_end-e.ensures.0 c.args.class)

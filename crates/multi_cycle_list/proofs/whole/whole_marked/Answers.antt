@@ -1,46 +1,32 @@
-use native.Mathlib.Omega.{arith}
-use mathlib.Core.Path.{refl, sym, ap, ◌∙◌}
-use lib.ListN.{length}
-use Rattle.state.proofs.Tests.{byte_fits}
+use Rattle.std.proofs.Common.{sym, ap, ◌∙◌, length, arith}
 use Rattle.multi_cycle_list.specs.Nodes.{classes}
 use Rattle.multi_cycle_list.proofs.WholeTools.{sizes_of, whole-no-sizes}
 use Rattle.multi_cycle_list.proofs.Marks.{length-marks_of}
 use Rattle.multi_cycle_list.proofs.Sound.{not-whole-marked, whole-no-cycles, whole-marked}
 use Rattle.multi_cycle_list.proofs.whole.whole_marked.Goals as goal
 
-pub returns-else-sizes : goal.returns-else-sizes
-returns-else-sizes c = not-whole-marked _ _ (whole-no-sizes _ (sym c.sizes.ensures ∙ c.if-sizes.false))
+pub returns-then-not-sizes : goal.returns-then-not-sizes
+returns-then-not-sizes c = not-whole-marked _ _ (whole-no-sizes _ (sym c.if-not-sizes.ensures))
 
 pub bounds-s-0 : goal.bounds-s-0
-bounds-s-0 c = let z = sizes_of c.args.s.now (sym c.sizes.ensures ∙ c.if-sizes.true) in omega arith
-
-pub overflow_cast-c : goal.overflow_cast-c
-overflow_cast-c c = byte_fits (c.type_inv.s _)
+bounds-s-0 c = let z = sizes_of c.args.s.now (sym c.if-not-sizes.ensures) in omega arith
 
 pub bounds-s-1 : goal.bounds-s-1
-bounds-s-1 c = let z = sizes_of c.args.s.now (sym c.sizes.ensures ∙ c.if-sizes.true) in omega arith
-
-pub overflow_cast-e : goal.overflow_cast-e
-overflow_cast-e c = byte_fits (c.type_inv.s _)
-
-pub overflow_add-n : goal.overflow_add-n
-overflow_add-n c = let z = sizes_of c.args.s.now (sym c.sizes.ensures ∙ c.if-sizes.true) in omega arith
+bounds-s-1 c = let z = sizes_of c.args.s.now (sym c.if-not-sizes.ensures) in omega arith
 
 pub cycles-requires : goal.cycles-requires
-cycles-requires c = let z = sizes_of c.args.s.now (sym c.sizes.ensures ∙ c.if-sizes.true) in (z.most, (refl, (omega arith, (z.sized, c.requires))))
-
-pub shape_of-seen-else-cycles : goal.shape_of-seen-else-cycles
-shape_of-seen-else-cycles c = c.cycles.auto.seen
-
-pub returns-else-cycles : goal.returns-else-cycles
-returns-else-cycles c = not-whole-marked _ _ (whole-no-cycles c.args.s.now (sym c.sizes.ensures ∙ c.if-sizes.true) (sym c.cycles.ensures.0 ∙ c.if-cycles.false))
+cycles-requires c = let z = sizes_of c.args.s.now (sym c.if-not-sizes.ensures) in (omega arith, (omega arith, (omega arith, (omega arith, c.requires))))
 
 pub all_placed-requires : goal.all_placed-requires
-all_placed-requires c = let z = sizes_of c.args.s.now (sym c.sizes.ensures ∙ c.if-sizes.true) in
-    (omega arith, (z.sized, ap length (c.cycles.ensures.1 c.if-cycles.true) ∙ length-marks_of c.args.s.now (classes c.args.s.now)))
+all_placed-requires c =
+    let s = c.args.s.now in
+    let z = sizes_of s (sym c.if-not-sizes.ensures) in
+    (omega arith, (omega arith, ap length (c.cycles.ensures.1 c.if-cycles.true) ∙ length-marks_of s (classes s)))
 
-pub shape_of-seen : goal.shape_of-seen
-shape_of-seen c = c.cycles.auto.seen
+pub returns-then-cycles : goal.returns-then-cycles
+returns-then-cycles c =
+    whole-marked _ _ _ (sym c.if-not-sizes.ensures) (sym c.if-cycles.ensures.0) (c.cycles.ensures.1 c.if-cycles.true)
+    (rw (c.from-classes.ensures, c.from-entries.ensures) at c.all_placed.ensures)
 
-pub returns : goal.returns
-returns c = whole-marked c.args.s.now _ _ (sym c.sizes.ensures ∙ c.if-sizes.true) (sym c.cycles.ensures.0 ∙ c.if-cycles.true) (c.cycles.ensures.1 c.if-cycles.true) c.all_placed.ensures
+pub returns-else-cycles : goal.returns-else-cycles
+returns-else-cycles c = rw c.if-cycles.false (not-whole-marked _ _ (whole-no-cycles _ (sym c.if-not-sizes.ensures) (sym c.if-cycles.ensures.0)))

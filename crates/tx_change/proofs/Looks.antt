@@ -11,7 +11,6 @@ use lib.ListN.{get_or, set}
 use lib.Seq.{get_or-set_other, set-get_or}
 use borrow.Author.Tests.{lt-ltb, le-ltb, eq-eqb, ne_eqb}
 use Rattle.multi_cycle_list.specs.Lists.{first}
-use Rattle.std.specs.Prelude.{Some, None}
 use Rattle.emcyphal_core.specs.Sets.{has}
 use Rattle.tx_queue.specs.TxQueue.{sets_of}
 use Rattle.tx_queue.specs.Bytes.{ready_at, started_at, flag_at, pick_of, read}
@@ -64,11 +63,11 @@ module _ (s : List ℕ) (e ready started : ℕ) where
 
 -- ---- the front
 
-pub front-some : (q : List ℕ) (e : ℕ) → first q ≡ SomeEntry e → e ≡ front q
+pub front-some : (q : List ℕ) (e : ℕ) → first q ≡ Some e → e ≡ front q
 front-some [] e h = absurd (let z : ◌≡◌ {A = ℕ} 0 1 = cc in omega arith)
 front-some (x ∷ q) e h = let z : x ≡ e = cc in sym z
 
-pub front-none : (q : List ℕ) → first q ≡ NoEntry → 0 ≡ front q
+pub front-none : (q : List ℕ) → first q ≡ None → 0 ≡ front q
 front-none [] h = refl
 front-none (x ∷ q) h = absurd (let z : ◌≡◌ {A = ℕ} 0 1 = cc in omega arith)
 

@@ -52,7 +52,7 @@ class Body:
         for at in range(function.start, function.end):
             if self.tokens[at].text == "let":
                 self.read_let(at)
-            if self.tokens[at].text == "for":
+            if self.tokens[at].text == "for" and self.tokens[at + 1].text != "_":
                 self.bound.append((self.tokens[at + 1].text, "usize", at, close_of(self.tokens, self.body_of(at))))
 
     # ---- names and types

@@ -333,7 +333,8 @@ class Tree:
         return self.functions.get(whole) or self.spelt.get(whole) or self.foreign.get(tuple(path[-2:]))
 
     def enum_at(self, file, owner, path):
-        return self.enums.get("::".join(self.full_path(file, owner, path)))
+        """The cases of the enum of that path; none of a case by itself, as `Some` is."""
+        return self.enums.get("::".join(self.full_path(file, owner, path))) if path else None
 
     def methods(self, name):
         """The methods of that name, of any type."""

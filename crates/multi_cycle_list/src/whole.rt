@@ -12,7 +12,10 @@ use crate::link::Link;
 fn sizes(s: &[u8]) -> bool
     ensures { result ≡ sizes_b s.now }
 {
-    matches!(s, [classes, entries, ..] if (1..=32).contains(classes) && *entries <= 224 && s.len() == 2 + 2 * (usize::from(*classes) + usize::from(*entries)))
+    2 <= s.len()
+        && (1..=32).contains(&s[0])
+        && s[1] <= 224
+        && s.len() == 2 + 2 * (usize::from(s[0]) + usize::from(s[1]))
 }
 
 // The node that the node's link leads to; none where it leads out of the `n` nodes, or the opposite link there does not come back.
@@ -21,11 +24,7 @@ fn linked(s: &[u8], n: usize, node: usize, link: Link) -> Option<usize>
     ensures { result ≡ linked s.now n node link }
 {
     let to = link_at(s, node, link);
-    if to < n && link_at(s, to, link.opposite()) == node {
-        Some(to)
-    } else {
-        None
-    }
+    (to < n && link_at(s, to, link.opposite()) == node).then_some(to)
 }
 
 // Goes from the class both ways in turn, through entries alone, until the two ends meet. Marks the entries' nodes.
@@ -81,7 +80,7 @@ fn is_placed(s: &[u8], seen: &[u8], node: usize) -> bool
     requires { (3 + 2 * node < length s.now) × (node < length seen.now) }
     ensures { result ≡ placed_by s.now seen.now node }
 {
-    seen[node] != 0 || next(s, node) == node && prev(s, node) == node
+    seen[node] != 0 || (next(s, node), prev(s, node)) == (node, node)
 }
 
 fn all_placed(s: &[u8], seen: &[u8], classes: usize, entries: usize) -> bool

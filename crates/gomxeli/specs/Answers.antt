@@ -7,8 +7,6 @@ use Rattle.state.specs.declared.Refusal.{Refusal}
 use Rattle.state.specs.declared.Refusal.TheVariants.{NotTaken}
 use Rattle.emcyphal_core.specs.Priorities as priorities
 use Rattle.emcyphal_core.specs.declared.Priority.{Priority}
-use Rattle.multi_class_queue.specs.declared.Answer as list
-use Rattle.multi_class_queue.specs.declared.Answer.TheVariants as list-says
 use Rattle.regular.specs.declared.Answer as regular
 use Rattle.regular.specs.declared.Answer.TheVariants as regular-says
 use Rattle.loop_back.specs.declared.Answer as loop-back
@@ -56,13 +54,14 @@ done u = packed 0 0 0 0
 abbrev pub flag : Bool → ℕ
 flag b = packed 0 (to_nat b) 0 0
 
--- a list queue's answer
-abbrev pub list_answer : list.Answer → ℕ
-list_answer (list-says.Refused n) = packed n 0 0 0
-list_answer list-says.Done = packed 0 0 0 0
-list_answer (list-says.Is x) = packed 0 1 x 0
-list_answer list-says.Nothing = packed 0 0 0 0
-list_answer (list-says.Holds b) = packed 0 (to_nat b) 0 0
+-- what may be missing: what 1 and the value, first or second, or what 0
+abbrev pub option_first : Option ℕ → ℕ
+option_first (Some x) = packed 0 1 x 0
+option_first None = packed 0 0 0 0
+
+abbrev pub option_second : Option ℕ → ℕ
+option_second (Some x) = packed 0 1 0 x
+option_second None = packed 0 0 0 0
 
 -- a key queue's answer: 14 is an insert that was not taken, with its key and value
 abbrev pub key_answer : key.Answer → ℕ
@@ -110,14 +109,9 @@ transmit_answer (transmit-says.Picked e p) = packed 0 1 e p
 transmit_answer transmit-says.Nothing = packed 0 0 0 0
 transmit_answer (transmit-says.Settled e b) = packed 0 (to_nat b) e 0
 
--- what may be missing: what 1 and the value first, or what 0
 abbrev pub priority_answer : Option Priority → ℕ
 priority_answer (Some p) = packed 0 1 (priorities.number p) 0
 priority_answer None = packed 0 0 0 0
-
-abbrev pub id_answer : Option ℕ → ℕ
-id_answer (Some id) = packed 0 1 id 0
-id_answer None = packed 0 0 0 0
 
 abbrev pub eot_answer : Option Bool → ℕ
 eot_answer (Some b) = packed 0 1 (to_nat b) 0

@@ -16,7 +16,7 @@ use Rattle.tx_queue.specs.Steps.{reported}
 use Rattle.tx_queue.specs.Calls as txr
 use Rattle.tx_msg.specs.Steps as txm_steps
 use Rattle.tx_msg.specs.Calls as txm
-use Rattle.gomxeli.specs.Answers.{answered, list_answer, key_answer, regular_answer, loop_back_answer, request_answer, transmit_answer}
+use Rattle.gomxeli.specs.Answers.{answered, done, flag, option_first, key_answer, regular_answer, loop_back_answer, request_answer, transmit_answer}
 
 pub record Outcome : Type 0 where
   pub answer : ℕ
@@ -61,15 +61,15 @@ pub data Call : Type 0 where
 
 -- what each call answers and leaves: its contract cites its line
 abbrev pub does : Call → List ℕ → Outcome
-does (McqOpen c e) b = changes list_answer mcq.bytes b (mcq.opening (length b) c e)
-does (McqFront c) b = asks list_answer b (mcq.on (mcq.front c) b)
-does (McqBack c) b = asks list_answer b (mcq.on (mcq.back c) b)
-does (McqIsEmpty c) b = asks list_answer b (mcq.on (mcq.is_empty c) b)
-does (McqIsFront e) b = asks list_answer b (mcq.on (mcq.is_front e) b)
-does (McqIsBack e) b = asks list_answer b (mcq.on (mcq.is_back e) b)
-does (McqRemove e) b = changes list_answer mcq.bytes b (mcq.on (mcq.remove e) b)
-does (McqMoveFront c e) b = changes list_answer mcq.bytes b (mcq.on (mcq.move_front c e) b)
-does (McqMoveBack c e) b = changes list_answer mcq.bytes b (mcq.on (mcq.move_back c e) b)
+does (McqOpen c e) b = writes done mcq.bytes b (mcq.opening (length b) c e)
+does (McqFront c) b = reads option_first b (mcq.on (mcq.front c) b)
+does (McqBack c) b = reads option_first b (mcq.on (mcq.back c) b)
+does (McqIsEmpty c) b = reads flag b (mcq.on (mcq.is_empty c) b)
+does (McqIsFront e) b = reads option_first b (mcq.on (mcq.is_front e) b)
+does (McqIsBack e) b = reads option_first b (mcq.on (mcq.is_back e) b)
+does (McqRemove e) b = writes done mcq.bytes b (mcq.on (mcq.remove e) b)
+does (McqMoveFront c e) b = writes done mcq.bytes b (mcq.on (mcq.move_front c e) b)
+does (McqMoveBack c e) b = writes done mcq.bytes b (mcq.on (mcq.move_back c e) b)
 does (IqOpen k e) b = changes key_answer iq.opened_bytes b (iq.opening (length b) k e)
 does (IqContains k) b = asks key_answer b (iq.on (iq.contains k) b)
 does (IqGet k) b = asks key_answer b (iq.on (iq.get k) b)

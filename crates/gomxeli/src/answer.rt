@@ -1,7 +1,7 @@
 // Answers as one number each, laid out as specs/Answers.antt has it.
 ghost use Rattle.std.specs.Prelude.{◌≡◌, ℕ};
 ghost use Rattle.state.specs.Seq.{to_nat};
-ghost use Rattle.gomxeli.specs.Answers.{packed, done, flag, answered, list_answer, key_answer, regular_answer, loop_back_answer, request_answer, transmit_answer, priority_answer, id_answer, eot_answer};
+ghost use Rattle.gomxeli.specs.Answers.{packed, done, flag, answered, option_first, option_second, key_answer, regular_answer, loop_back_answer, request_answer, transmit_answer, priority_answer, eot_answer};
 
 use emcyphal_core::{Priority, PrioritySet};
 use state::Refusal;
@@ -27,6 +27,37 @@ impl Answer for bool {
 
     fn pack(self) -> u64 {
         holds(self)
+    }
+}
+
+// An entry, a class, a key or an id is the first field, and a value the second.
+impl Answer for Option<u8> {
+    ghost packed = { option_first };
+
+    fn pack(self) -> u64 {
+        self.map(u16::from).pack()
+    }
+}
+
+impl Answer for Option<u16> {
+    ghost packed = { option_first };
+
+    fn pack(self) -> u64 {
+        match self {
+            Some(id) => pack(0, 1, id, 0),
+            None => pack(0, 0, 0, 0),
+        }
+    }
+}
+
+impl Answer for Option<u32> {
+    ghost packed = { option_second };
+
+    fn pack(self) -> u64 {
+        match self {
+            Some(value) => pack(0, 1, 0, value),
+            None => pack(0, 0, 0, 0),
+        }
     }
 }
 
@@ -65,18 +96,6 @@ pub fn set_answer(s: PrioritySet) -> u64
     ensures { result ≡ packed 0 0 s 0 }
 {
     byte_answer(s.into_bits())
-}
-
-pub fn list_answer(a: multi_class_queue::Answer) -> u64
-    ensures { result ≡ list_answer a }
-{
-    match a {
-        multi_class_queue::Answer::Refused(n) => pack(n, 0, 0, 0),
-        multi_class_queue::Answer::Done => pack(0, 0, 0, 0),
-        multi_class_queue::Answer::Is(x) => pack(0, 1, x as u16, 0),
-        multi_class_queue::Answer::Nothing => pack(0, 0, 0, 0),
-        multi_class_queue::Answer::Holds(b) => holds(b),
-    }
 }
 
 pub fn key_answer(a: index_queue::Answer) -> u64
@@ -150,16 +169,6 @@ pub fn priority_answer(a: Option<Priority>) -> u64
 {
     match a {
         Some(p) => pack(0, 1, p.into_u8() as u16, 0),
-        None => pack(0, 0, 0, 0),
-    }
-}
-
-// An id goes by its number, whatever its kind.
-pub fn id_answer(a: Option<u16>) -> u64
-    ensures { result ≡ id_answer a }
-{
-    match a {
-        Some(id) => pack(0, 1, id, 0),
         None => pack(0, 0, 0, 0),
     }
 }

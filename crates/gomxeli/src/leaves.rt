@@ -5,17 +5,17 @@ ghost use Rattle.emcyphal_core.specs.Ids.{nodes, subjects, services, transfers, 
 ghost use Rattle.emcyphal_core.specs.Priorities.{maybe_priority, before};
 ghost use Rattle.emcyphal_core.specs.Sets.{has, set_of, without, is_empty, first_of, last_of, next_of};
 ghost use Rattle.format.specs.Tail.{tail_byte, eot_frame};
-ghost use Rattle.gomxeli.specs.Answers.{packed, priority_answer, id_answer, eot_answer, next_answer, with_priority};
+ghost use Rattle.gomxeli.specs.Answers.{packed, priority_answer, option_first, eot_answer, next_answer, with_priority};
 
-use crate::answer::{byte_answer, eot_answer, holds, id_answer, pack, priority_answer, set_answer};
+use crate::answer::{Answer, byte_answer, eot_answer, holds, pack, priority_answer, set_answer};
 use emcyphal_core::{NodeId, Priority, PrioritySet, ServiceId, SubjectId, TransferId};
 use format::TailByte;
 
 #[unsafe(no_mangle)]
 pub extern "C" fn gomxeli_subject_id_new(value: u16) -> u64
-    ensures { result ≡ id_answer (maybe_id subjects value) }
+    ensures { result ≡ option_first (maybe_id subjects value) }
 {
-    id_answer(SubjectId::new(value).map(u16::from))
+    SubjectId::new(value).map(u16::from).pack()
 }
 
 #[unsafe(no_mangle)]
@@ -27,9 +27,9 @@ pub extern "C" fn gomxeli_subject_id_from_u16_truncating(value: u16) -> u64
 
 #[unsafe(no_mangle)]
 pub extern "C" fn gomxeli_service_id_new(value: u16) -> u64
-    ensures { result ≡ id_answer (maybe_id services value) }
+    ensures { result ≡ option_first (maybe_id services value) }
 {
-    id_answer(ServiceId::new(value).map(u16::from))
+    ServiceId::new(value).map(u16::from).pack()
 }
 
 #[unsafe(no_mangle)]
@@ -41,9 +41,9 @@ pub extern "C" fn gomxeli_service_id_from_u16_truncating(value: u16) -> u64
 
 #[unsafe(no_mangle)]
 pub extern "C" fn gomxeli_node_id_new(value: u8) -> u64
-    ensures { result ≡ id_answer (maybe_id nodes value) }
+    ensures { result ≡ option_first (maybe_id nodes value) }
 {
-    id_answer(NodeId::new(value).map(u8::from).map(u16::from))
+    NodeId::new(value).map(u8::from).pack()
 }
 
 #[unsafe(no_mangle)]
@@ -55,9 +55,9 @@ pub extern "C" fn gomxeli_node_id_from_u8_truncating(value: u8) -> u64
 
 #[unsafe(no_mangle)]
 pub extern "C" fn gomxeli_transfer_id_new(value: u8) -> u64
-    ensures { result ≡ id_answer (maybe_id transfers value) }
+    ensures { result ≡ option_first (maybe_id transfers value) }
 {
-    id_answer(TransferId::new(value).map(u8::from).map(u16::from))
+    TransferId::new(value).map(u8::from).pack()
 }
 
 #[unsafe(no_mangle)]

@@ -5,11 +5,11 @@ ghost use Rattle.emcyphal_core.specs.Ids.{nodes, subjects, services, transfers, 
 ghost use Rattle.emcyphal_core.specs.Priorities.{maybe_priority, before};
 ghost use Rattle.emcyphal_core.specs.Sets.{has, set_of, without, is_empty, first_of, last_of, next_of};
 ghost use Rattle.format.specs.Tail.{tail_byte, eot_frame};
-ghost use Rattle.gomxeli.specs.Answers.{packed, priority_answer, id_answer, eot_answer, next_answer, with_priority};
+ghost use Rattle.gomxeli.specs.Answers.{packed, priority_answer, option_first, eot_answer, next_answer, with_priority};
 
 #[unsafe(no_mangle)]
 pub extern "C" fn gomxeli_subject_id_new(value: u16) -> u64
-    ensures { result ≡ id_answer (maybe_id subjects value) }
+    ensures { result ≡ option_first (maybe_id subjects value) }
 {
     gomxeli::leaves::gomxeli_subject_id_new(value)
 }
@@ -23,7 +23,7 @@ pub extern "C" fn gomxeli_subject_id_from_u16_truncating(value: u16) -> u64
 
 #[unsafe(no_mangle)]
 pub extern "C" fn gomxeli_service_id_new(value: u16) -> u64
-    ensures { result ≡ id_answer (maybe_id services value) }
+    ensures { result ≡ option_first (maybe_id services value) }
 {
     gomxeli::leaves::gomxeli_service_id_new(value)
 }
@@ -37,7 +37,7 @@ pub extern "C" fn gomxeli_service_id_from_u16_truncating(value: u16) -> u64
 
 #[unsafe(no_mangle)]
 pub extern "C" fn gomxeli_node_id_new(value: u8) -> u64
-    ensures { result ≡ id_answer (maybe_id nodes value) }
+    ensures { result ≡ option_first (maybe_id nodes value) }
 {
     gomxeli::leaves::gomxeli_node_id_new(value)
 }
@@ -51,7 +51,7 @@ pub extern "C" fn gomxeli_node_id_from_u8_truncating(value: u8) -> u64
 
 #[unsafe(no_mangle)]
 pub extern "C" fn gomxeli_transfer_id_new(value: u8) -> u64
-    ensures { result ≡ id_answer (maybe_id transfers value) }
+    ensures { result ≡ option_first (maybe_id transfers value) }
 {
     gomxeli::leaves::gomxeli_transfer_id_new(value)
 }

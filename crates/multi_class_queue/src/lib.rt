@@ -1,174 +1,130 @@
-// `MultiClassQueue`'s calls over lent bytes. 1: the bytes are not whole. 13: a class or an entry past the size, or sizes not allowed.
+// `MultiClassQueue`'s calls over lent bytes. `NotWhole`: the bytes are not whole. `Size`: a class or an entry past the size, or sizes not allowed.
 #![tactic(auto)]
 
 ghost use Rattle.std.specs.Prelude.{◌≡◌, ◌<◌, length};
-ghost use Rattle.state.specs.Result.{answer};
-ghost use Rattle.multi_class_queue.specs.Inner.{refusal, move_refusal};
-ghost use Rattle.multi_class_queue.specs.Calls.{named, on, bytes, opening, front, back, is_empty, is_front, is_back, remove, move_front, move_back, ListsMean};
+ghost use Rattle.state.specs.Outcome.{answer};
+ghost use Rattle.multi_class_queue.specs.Inner.{checked, move_checked};
+ghost use Rattle.multi_class_queue.specs.Calls.{on, bytes, opening, front, back, is_empty, is_front, is_back, remove, move_front, move_back, ListsMean};
 
 use multi_cycle_list::inner::{
     inner_back, inner_front, inner_move_back, inner_move_front, inner_open, inner_remove,
 };
 use multi_cycle_list::whole::whole;
+use state::Refusal;
 
-// An answer of a call. `Is` has the entry, or the class, asked for; `Holds`, whether the class is empty.
-#[derive(Clone, Copy)]
-pub enum Answer {
-    Refused(u8),
-    Done,
-    Is(u8),
-    Nothing,
-    Holds(bool),
-}
-
-pub fn open(s: &mut [u8], classes: u32, entries: u32) -> Answer
+#[tactic(auto, unfolding(crate::specs::Calls::opening))]
+pub fn open(s: &mut [u8], classes: u32, entries: u32) -> Result<(), Refusal>
     ensures { (result ≡ answer (opening (length s.old) classes entries)) × (s.new ≡ bytes s.old (opening (length s.old) classes entries)) }
 {
-    if classes < 1 {
-        return Answer::Refused(13);
+    if !(1..=32).contains(&classes) || 224 < entries {
+        return Err(Refusal::Size);
     }
-    if 32 < classes {
-        return Answer::Refused(13);
+    let classes = classes as usize;
+    let entries = entries as usize;
+    if s.len() != 2 + 2 * (classes + entries) {
+        return Err(Refusal::NotWhole);
     }
-    if 224 < entries {
-        return Answer::Refused(13);
-    }
-    let n = (classes as usize) + (entries as usize);
-    if s.len() != 2 + 2 * n {
-        return Answer::Refused(1);
-    }
-    inner_open(s, classes as usize, entries as usize);
-    Answer::Done
+    inner_open(s, classes, entries);
+    Ok(())
 }
 
-// 1 where the bytes are not whole, 13 where `x` is past the size in byte `at`, else 0.
-fn refusal(s: &[u8], at: usize, x: u32) -> u8
+// That the bytes are whole, and then that `x` is below the size in byte `at`.
+#[tactic(auto, using(crate::proofs::Sizes::whole_length))]
+fn check(s: &[u8], at: usize, x: u32) -> Result<(), Refusal>
     requires { at < 2 }
-    ensures { result ≡ refusal s.now at x }
+    ensures { result ≡ checked s.now at x }
 {
-    if whole(s) {} else {
-        return 1;
+    if !whole(s) {
+        return Err(Refusal::NotWhole);
     }
-    if s[at] as u32 <= x {
-        return 13;
+    if u32::from(s[at]) <= x {
+        return Err(Refusal::Size);
     }
-    0
+    Ok(())
 }
 
 // The same for a class and an entry.
-fn move_refusal(s: &[u8], class: u32, entry: u32) -> u8
-    ensures { result ≡ move_refusal s.now class entry }
+#[tactic(auto, using(crate::proofs::Sizes::whole_length))]
+fn check_move(s: &[u8], class: u32, entry: u32) -> Result<(), Refusal>
+    ensures { result ≡ move_checked s.now class entry }
 {
-    let n = refusal(s, 0, class);
-    if n != 0 {
-        return n;
+    check(s, 0, class)?;
+    if u32::from(s[1]) <= entry {
+        return Err(Refusal::Size);
     }
-    if s[1] as u32 <= entry {
-        return 13;
-    }
-    0
+    Ok(())
 }
 
-fn named(entry: Option<u8>) -> Answer
-    ensures { result ≡ named entry }
-{
-    match entry {
-        Some(e) => Answer::Is(e),
-        None => Answer::Nothing,
-    }
-}
-
-pub fn front(s: &[u8], class: u32) -> Answer
+#[tactic(auto, using(crate::proofs::Sizes::rows_length), unfolding(crate::specs::Calls::front))]
+pub fn front(s: &[u8], class: u32) -> Result<Option<u8>, Refusal>
     ensures { result ≡ answer (on (front class) s.now) }
 {
-    let n = refusal(s, 0, class);
-    if n != 0 {
-        return Answer::Refused(n);
-    }
-    named(inner_front(s, class as usize))
+    check(s, 0, class)?;
+    Ok(inner_front(s, class as usize))
 }
 
-pub fn back(s: &[u8], class: u32) -> Answer
+#[tactic(auto, using(crate::proofs::Sizes::rows_length), unfolding(crate::specs::Calls::back))]
+pub fn back(s: &[u8], class: u32) -> Result<Option<u8>, Refusal>
     ensures { result ≡ answer (on (back class) s.now) }
 {
-    let n = refusal(s, 0, class);
-    if n != 0 {
-        return Answer::Refused(n);
-    }
-    named(inner_back(s, class as usize))
+    check(s, 0, class)?;
+    Ok(inner_back(s, class as usize))
 }
 
-pub fn is_empty(s: &[u8], class: u32) -> Answer
+#[tactic(auto, using(crate::proofs::Sizes::rows_length), unfolding(crate::specs::Calls::is_empty))]
+pub fn is_empty(s: &[u8], class: u32) -> Result<bool, Refusal>
     ensures { result ≡ answer (on (is_empty class) s.now) }
 {
-    let n = refusal(s, 0, class);
-    if n != 0 {
-        return Answer::Refused(n);
-    }
-    Answer::Holds(s[2 + 2 * (class as usize)] < s[0])
+    check(s, 0, class)?;
+    Ok(inner_front(s, class as usize).is_none())
 }
 
-pub fn is_front(s: &[u8], entry: u32) -> Answer
+// The class whose front the entry is: the class before its node, if one is.
+#[tactic(auto, using(crate::proofs::Sizes::whole_length, crate::proofs::Classes::head_in, crate::proofs::Classes::head_not), unfolding(crate::specs::Calls::is_front))]
+pub fn is_front(s: &[u8], entry: u32) -> Result<Option<u8>, Refusal>
     ensures { result ≡ answer (on (is_front entry) s.now) }
 {
-    let n = refusal(s, 1, entry);
-    if n != 0 {
-        return Answer::Refused(n);
-    }
-    let c = s[0];
-    let prev = s[3 + 2 * ((c as usize) + (entry as usize))];
-    if prev < c {
-        return Answer::Is(prev);
-    }
-    Answer::Nothing
+    check(s, 1, entry)?;
+    let classes = s[0];
+    let prev = s[3 + 2 * (usize::from(classes) + entry as usize)];
+    Ok(if prev < classes { Some(prev) } else { None })
 }
 
-pub fn is_back(s: &[u8], entry: u32) -> Answer
+#[tactic(auto, using(crate::proofs::Sizes::whole_length, crate::proofs::Classes::tail_in, crate::proofs::Classes::tail_not), unfolding(crate::specs::Calls::is_back))]
+pub fn is_back(s: &[u8], entry: u32) -> Result<Option<u8>, Refusal>
     ensures { result ≡ answer (on (is_back entry) s.now) }
 {
-    let n = refusal(s, 1, entry);
-    if n != 0 {
-        return Answer::Refused(n);
-    }
-    let c = s[0];
-    let next = s[2 + 2 * ((c as usize) + (entry as usize))];
-    if next < c {
-        return Answer::Is(next);
-    }
-    Answer::Nothing
+    check(s, 1, entry)?;
+    let classes = s[0];
+    let next = s[2 + 2 * (usize::from(classes) + entry as usize)];
+    Ok(if next < classes { Some(next) } else { None })
 }
 
-pub fn remove(s: &mut [u8], entry: u32) -> Answer
+#[tactic(auto, unfolding(crate::specs::Calls::remove))]
+pub fn remove(s: &mut [u8], entry: u32) -> Result<(), Refusal>
     ensures { (result ≡ answer (on (remove entry) s.old)) × (s.new ≡ bytes s.old (on (remove entry) s.old)) }
 {
-    let n = refusal(s, 1, entry);
-    if n != 0 {
-        return Answer::Refused(n);
-    }
+    check(s, 1, entry)?;
     inner_remove(s, entry as usize);
-    Answer::Done
+    Ok(())
 }
 
-pub fn move_front(s: &mut [u8], class: u32, entry: u32) -> Answer
+#[tactic(auto, using(crate::proofs::Sizes::rows_length), unfolding(crate::specs::Calls::move_front))]
+pub fn move_front(s: &mut [u8], class: u32, entry: u32) -> Result<(), Refusal>
     ensures { (result ≡ answer (on (move_front class entry) s.old)) × (s.new ≡ bytes s.old (on (move_front class entry) s.old)) }
 {
-    let n = move_refusal(s, class, entry);
-    if n != 0 {
-        return Answer::Refused(n);
-    }
+    check_move(s, class, entry)?;
     inner_move_front(s, class as usize, entry as usize);
-    Answer::Done
+    Ok(())
 }
 
-pub fn move_back(s: &mut [u8], class: u32, entry: u32) -> Answer
+#[tactic(auto, using(crate::proofs::Sizes::rows_length), unfolding(crate::specs::Calls::move_back))]
+pub fn move_back(s: &mut [u8], class: u32, entry: u32) -> Result<(), Refusal>
     ensures { (result ≡ answer (on (move_back class entry) s.old)) × (s.new ≡ bytes s.old (on (move_back class entry) s.old)) }
 {
-    let n = move_refusal(s, class, entry);
-    if n != 0 {
-        return Answer::Refused(n);
-    }
+    check_move(s, class, entry)?;
     inner_move_back(s, class as usize, entry as usize);
-    Answer::Done
+    Ok(())
 }
 
 // Does nothing: its contract is the theorem of specs/Calls.antt.

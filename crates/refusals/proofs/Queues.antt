@@ -8,34 +8,29 @@ use lib.Dec.{ltb, eqb}
 use borrow.Author.Tests.{eq-eqb}
 use Rattle.state.specs.Lengths.{lists_allowed, lists_length, keys_allowed, keys_length}
 use Rattle.state.specs.Result.{Result, refuse}
+use Rattle.state.specs.Outcome.{Outcome}
 use Rattle.state.proofs.Tests.{by_cond}
 use Rattle.multi_cycle_list.specs.Lists as lists
 use Rattle.multi_cycle_list.specs.Nodes as nodes
 use Rattle.std.specs.Prelude.{Option, Some, None}
 use Rattle.multi_class_queue.specs.Calls as mcq
-use Rattle.multi_class_queue.specs.declared.Answer as list
-use Rattle.multi_class_queue.specs.declared.Answer.TheVariants as list-says
 use Rattle.index_entries.specs.Keys.{Slot, free, holds, spent, Keys, slot, Found, missing, at, found}
 use Rattle.index_entries.specs.Bytes as entries
 use Rattle.index_queue.specs.Calls as iq
 use Rattle.index_queue.specs.declared.Answer as key
 use Rattle.index_queue.specs.declared.Answer.TheVariants as key-says
-use Rattle.gomxeli.specs.Answers.{packed, number, list_answer, key_answer}
+use Rattle.gomxeli.specs.Answers.{packed, number, done, flag, option_first, key_answer}
 use Rattle.gomxeli.specs.Calls.{McqFront, McqBack, McqIsEmpty, McqIsFront, McqIsBack, McqRemove, McqOpen, McqMoveFront, McqMoveBack, IqFront, IqBack, IqContains, IqGet, IqRemove, IqEnqueueFront, IqEnqueueBack, IqDequeue, IqOpen, IqGetMut, IqInsert}
 use Rattle.gomxeli.proofs.Fields.{number_of}
 use Rattle.refusals.specs.Refusals.{among, Refusal, refusals}
+use Rattle.refusals.proofs.Outcomes as outcomes
 use Rattle.refusals.proofs.Ends.{Ends, refuses, answers, either, on-bytes, zero_number, is_refusal, numbered}
 
 -- ---- the numbers of answers
 
-named-zero : (e : Option ℕ) → number (list_answer (mcq.named e)) ≡ 0
-named-zero (Some x) = zero_number _ _ _
-named-zero None = zero_number _ _ _
-
-which-zero : (t : List ℕ → Bool) (k : ℕ) (rows : List (List ℕ)) → number (list_answer (mcq.which t k rows)) ≡ 0
-unfolding mcq.which
-which-zero t k [] = zero_number _ _ _
-which-zero t k (r ∷ rows) = by_cond (λ a. number (list_answer a) ≡ 0) (t r) (λ h. zero_number _ _ _) (λ h. which-zero t (suc k) rows)
+first-zero : (x : Option ℕ) → number (option_first x) ≡ 0
+first-zero (Some x) = zero_number _ _ _
+first-zero None = zero_number _ _ _
 
 value-zero : (o : Found) → number (key_answer (iq.value_in o)) ≡ 0
 value-zero missing = zero_number _ _ _
@@ -54,53 +49,53 @@ key-at-zero m None = zero_number _ _ _
 
 -- ---- list queues
 
-abbrev pub Lists : List ℕ → (lists.Lists → Result list.Answer lists.Lists) → Type 0
-Lists l g = (m : lists.Lists) → Ends l list_answer (g m)
+abbrev pub Lists : {A : Type 0} → List ℕ → (A → ℕ) → (lists.Lists → Outcome A lists.Lists) → Type 0
+Lists l fields g = (m : lists.Lists) → outcomes.Ends l fields (g m)
 
-no-list : {l : List ℕ} (n : ℕ) → is_refusal l n ≡ true → Ends {M = lists.Lists} l list_answer (refuse (list-says.Refused n))
-no-list {l = l} n h = refuses (numbered l n h)
+pub on-lists : {A : Type 0} {l : List ℕ} {fields : A → ℕ} {g : lists.Lists → Outcome A lists.Lists} (b : List ℕ) → Lists (1 ∷ l) fields g → outcomes.Ends (1 ∷ l) fields (mcq.on g b)
+on-lists {g} b h = outcomes.on-bytes nodes.whole_b nodes.read g b refl h
 
-pub on-lists : {l : List ℕ} {g : lists.Lists → Result list.Answer lists.Lists} (b : List ℕ) → Lists (1 ∷ l) g → Ends (1 ∷ l) list_answer (mcq.on g b)
-on-lists {g} b h = on-bytes nodes.whole_b nodes.read (list-says.Refused 1) g b (no-list 1 refl) h
+in_size_lem : {A : Type 0} {l : List ℕ} {fields : A → ℕ} (t : Bool) {r : Outcome A lists.Lists} → is_refusal l 13 ≡ true → outcomes.Ends l fields r → outcomes.Ends l fields (mcq.in_size t r)
+in_size_lem t h p = outcomes.either t p (outcomes.alone 13 refl h)
 
-in_size_lem : {l : List ℕ} (t : Bool) {r : Result list.Answer lists.Lists} → is_refusal l 13 ≡ true → Ends l list_answer r → Ends l list_answer (mcq.in_size t r)
-in_size_lem t h p = either t p (no-list 13 h)
-
-pub front : (c : ℕ) → Lists (refusals (McqFront c)) (mcq.front c)
+pub front : (c : ℕ) → Lists (refusals (McqFront c)) option_first (mcq.front c)
 unfolding mcq.front
-front c m = in_size_lem (mcq.has_class m c) refl (answers (named-zero (lists.first (lists.row m c))))
+front c m = in_size_lem (mcq.has_class m c) refl (outcomes.answers (first-zero (lists.first (lists.row m c))))
 
-pub back : (c : ℕ) → Lists (refusals (McqBack c)) (mcq.back c)
+pub back : (c : ℕ) → Lists (refusals (McqBack c)) option_first (mcq.back c)
 unfolding mcq.back
-back c m = in_size_lem (mcq.has_class m c) refl (answers (named-zero (lists.last (lists.row m c))))
+back c m = in_size_lem (mcq.has_class m c) refl (outcomes.answers (first-zero (lists.last (lists.row m c))))
 
-pub is-empty : (c : ℕ) → Lists (refusals (McqIsEmpty c)) (mcq.is_empty c)
+pub is-empty : (c : ℕ) → Lists (refusals (McqIsEmpty c)) flag (mcq.is_empty c)
 unfolding mcq.is_empty
-is-empty c m = in_size_lem (mcq.has_class m c) refl (answers (zero_number _ _ _))
+is-empty c m = in_size_lem (mcq.has_class m c) refl (outcomes.answers (zero_number _ _ _))
 
-pub is_front_lem : (e : ℕ) → Lists (refusals (McqIsFront e)) (mcq.is_front e)
+pub is_front_lem : (e : ℕ) → Lists (refusals (McqIsFront e)) option_first (mcq.is_front e)
 unfolding mcq.is_front
-is_front_lem e m = in_size_lem (mcq.has_entry m e) refl (answers (which-zero (λ r. mcq.says e (lists.first r)) 0 m.rows))
+is_front_lem e m = in_size_lem (mcq.has_entry m e) refl (outcomes.answers (first-zero (mcq.which (λ r. mcq.says e (lists.first r)) 0 m.rows)))
 
-pub is-back : (e : ℕ) → Lists (refusals (McqIsBack e)) (mcq.is_back e)
+pub is-back : (e : ℕ) → Lists (refusals (McqIsBack e)) option_first (mcq.is_back e)
 unfolding mcq.is_back
-is-back e m = in_size_lem (mcq.has_entry m e) refl (answers (which-zero (λ r. mcq.says e (lists.last r)) 0 m.rows))
+is-back e m = in_size_lem (mcq.has_entry m e) refl (outcomes.answers (first-zero (mcq.which (λ r. mcq.says e (lists.last r)) 0 m.rows)))
 
-pub remove : (e : ℕ) → Lists (refusals (McqRemove e)) (mcq.remove e)
+pub remove : (e : ℕ) → Lists (refusals (McqRemove e)) done (mcq.remove e)
 unfolding mcq.remove
-remove e m = in_size_lem (mcq.has_entry m e) refl (answers (zero_number _ _ _))
+remove e m = in_size_lem (mcq.has_entry m e) refl (outcomes.answers (zero_number _ _ _))
 
-pub move-front : (c e : ℕ) → Lists (refusals (McqMoveFront c e)) (mcq.move_front c e)
+pub move-front : (c e : ℕ) → Lists (refusals (McqMoveFront c e)) done (mcq.move_front c e)
 unfolding mcq.move_front
-move-front c e m = in_size_lem (mcq.has_class m c && mcq.has_entry m e) refl (answers (zero_number _ _ _))
+move-front c e m = in_size_lem (mcq.has_class m c && mcq.has_entry m e) refl (outcomes.answers (zero_number _ _ _))
 
-pub move-back : (c e : ℕ) → Lists (refusals (McqMoveBack c e)) (mcq.move_back c e)
+pub move-back : (c e : ℕ) → Lists (refusals (McqMoveBack c e)) done (mcq.move_back c e)
 unfolding mcq.move_back
-move-back c e m = in_size_lem (mcq.has_class m c && mcq.has_entry m e) refl (answers (zero_number _ _ _))
+move-back c e m = in_size_lem (mcq.has_class m c && mcq.has_entry m e) refl (outcomes.answers (zero_number _ _ _))
 
-pub open-lists : (n c e : ℕ) → Ends (refusals (McqOpen c e)) list_answer (mcq.opening n c e)
+pub open-lists : (n c e : ℕ) → outcomes.Ends (refusals (McqOpen c e)) done (mcq.opening n c e)
 unfolding mcq.opening
-open-lists n c e = either (lists_allowed c e) (either (eqb n (lists_length c e)) (answers (zero_number _ _ _)) (no-list 1 refl)) (no-list 13 refl)
+open-lists n c e =
+    outcomes.either (lists_allowed c e)
+    (outcomes.either (eqb n (lists_length c e)) (outcomes.answers (zero_number _ _ _)) (outcomes.alone 1 refl refl))
+    (outcomes.alone 13 refl refl)
 
 -- ---- key queues
 

@@ -16,7 +16,7 @@ use Rattle.emcyphal_core.specs.Priorities.{maybe_priority, before}
 use Rattle.emcyphal_core.specs.Sets.{first_of, last_of, next_of}
 use Rattle.emcyphal_core.specs.declared.Priority.{Priority}
 use Rattle.format.specs.Tail.{eot_frame}
-use Rattle.gomxeli.specs.Answers.{number, done, flag, priority_answer, id_answer, eot_answer, next_answer, with_priority}
+use Rattle.gomxeli.specs.Answers.{number, done, flag, priority_answer, option_first, eot_answer, next_answer, with_priority}
 use Rattle.gomxeli.proofs.Fields.{refusal_of}
 use Rattle.refusals.specs.Stateless.{ImgOpen, ImgAddSubject, ImgRemoveSubjectRange, ImgHasSubject, LeafCall, leaf, SubjectIdNew, SubjectIdFromU16Truncating, ServiceIdNew, ServiceIdFromU16Truncating, NodeIdNew, NodeIdFromU8Truncating, TransferIdNew, TransferIdFromU8Truncating, TransferIdNext, PriorityTryFromU8, PriorityFromU8Truncating, PriorityNext, PriorityPrev, PrioritySetNewEq, PrioritySetNewGe, PrioritySetNewLe, PrioritySetNewGt, PrioritySetNewLt, PrioritySetFirst, PrioritySetLast, PrioritySetIsEmpty, PrioritySetComplement, PrioritySetNot, PrioritySetIterNext, TailByteSot, TailByteEot, TailByteToggle, TailByteTransferId, PrioritySetContains, PrioritySetInsert, PrioritySetRemove, PrioritySetBitand, PrioritySetBitor, TailByteNew, IsEotFrame}
 use Rattle.refusals.specs.Refusals.{image_refusals}
@@ -50,7 +50,7 @@ priority-zero : (o : Option Priority) → number (priority_answer o) ≡ 0
 priority-zero (Some p) = zero_number _ _ _
 priority-zero None = zero_number _ _ _
 
-id-zero : (o : Option ℕ) → number (id_answer o) ≡ 0
+id-zero : (o : Option ℕ) → number (option_first o) ≡ 0
 id-zero (Some id) = zero_number _ _ _
 id-zero None = zero_number _ _ _
 

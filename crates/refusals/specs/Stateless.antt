@@ -6,7 +6,7 @@ use Rattle.emcyphal_core.specs.Ids.{nodes, subjects, services, transfers, maybe_
 use Rattle.emcyphal_core.specs.Priorities.{maybe_priority, before}
 use Rattle.emcyphal_core.specs.Sets.{has, set_of, without, is_empty, first_of, last_of, next_of}
 use Rattle.format.specs.Tail.{tail_byte, eot_frame}
-use Rattle.gomxeli.specs.Answers.{packed, done, flag, priority_answer, id_answer, eot_answer, next_answer, with_priority}
+use Rattle.gomxeli.specs.Answers.{packed, done, flag, priority_answer, option_first, eot_answer, next_answer, with_priority}
 use Rattle.gomxeli.specs.Calls.{Outcome, reads, writes}
 
 pub data ImageCall : Type 0 where
@@ -32,13 +32,13 @@ pub data LeafCall : Type 0 where
   IsEotFrame : List ℕ → LeafCall
 
 abbrev pub leaf : LeafCall → ℕ
-leaf (SubjectIdNew value) = id_answer (maybe_id subjects value)
+leaf (SubjectIdNew value) = option_first (maybe_id subjects value)
 leaf (SubjectIdFromU16Truncating value) = packed 0 0 (value % subjects) 0
-leaf (ServiceIdNew value) = id_answer (maybe_id services value)
+leaf (ServiceIdNew value) = option_first (maybe_id services value)
 leaf (ServiceIdFromU16Truncating value) = packed 0 0 (value % services) 0
-leaf (NodeIdNew value) = id_answer (maybe_id nodes value)
+leaf (NodeIdNew value) = option_first (maybe_id nodes value)
 leaf (NodeIdFromU8Truncating value) = packed 0 0 (value % nodes) 0
-leaf (TransferIdNew value) = id_answer (maybe_id transfers value)
+leaf (TransferIdNew value) = option_first (maybe_id transfers value)
 leaf (TransferIdFromU8Truncating value) = packed 0 0 (value % transfers) 0
 leaf (TransferIdNext id) = packed 0 0 ((id % transfers + 1) % transfers) 0
 leaf (PriorityTryFromU8 value) = priority_answer (maybe_priority value)

@@ -8,15 +8,15 @@ use lib.Dec.{eqb}
 use lib.ListN.{length}
 use borrow.Author.Tests.{eqb-true}
 use Rattle.state.specs.Lengths.{Regular, Lists, Keys, Has, regular, lists, keys, lists_allowed, lists_length, keys_allowed, keys_length, regular_length, loop_back_length, requests_length, messages_length, responses_length}
+use Rattle.state.specs.Outcome.{Outcome}
 use Rattle.state.specs.Result.{Result}
 use Rattle.state.proofs.Tests.{by_cond, false_of, and_l, and_r}
 use Rattle.state.proofs.Calls.{not-whole}
+use Rattle.state.proofs.Outcomes as outcomes
 use Rattle.state.proofs.Disjoint.{disjoint}
 use Rattle.multi_cycle_list.specs.Lists as plain
 use Rattle.multi_cycle_list.specs.Nodes as nodes
 use Rattle.multi_class_queue.specs.Calls as mcq
-use Rattle.multi_class_queue.specs.declared.Answer as list
-use Rattle.multi_class_queue.specs.declared.Answer.TheVariants as list-says
 use Rattle.index_entries.specs.Keys as keyed
 use Rattle.index_entries.specs.Bytes as entries
 use Rattle.index_entries.specs.Laid as laid
@@ -80,8 +80,8 @@ module _ (b : List ℕ) (l : length b ≡ regular_length) where
   unfolding entries.whole_b entries.sizes_b
   not-keys = not-sized _ _ _ _ (λ h q. keys-no (entries.k_max b) (entries.entries b) h (sym l ∙ q))
 
-  list-call : (f : plain.Lists → Result list.Answer plain.Lists) → mcq.bytes b (mcq.on f b) ≡ b
-  list-call f = sym (not-whole nodes.whole_b nodes.read mcq.over (list-says.Refused 1) f b not-lists).1
+  list-call : {A : Type 0} (f : plain.Lists → Outcome A plain.Lists) → mcq.bytes b (mcq.on f b) ≡ b
+  list-call f = sym (outcomes.not-whole nodes.whole_b nodes.read mcq.over f b not-lists).1
 
   key-call : (f : keyed.Keys → Result key.Answer keyed.Keys) → iq.bytes b (iq.on f b) ≡ b
   key-call f = sym (not-whole entries.whole_b entries.read laid.laid (key-says.Refused 1) f b not-keys).1
@@ -93,7 +93,7 @@ module _ (b : List ℕ) (l : length b ≡ regular_length) where
       (λ h. by_cond K (eqb (length b) (lists_length c e)) (λ q. absurd (lists-no c e h (sym l ∙ eqb-true (length b) (lists_length c e) q))) (λ q. refl))
       (λ h. refl)
     where
-      K : Result list.Answer plain.Lists → Type 0
+      K : Outcome (Unit {0}) plain.Lists → Type 0
       K r = mcq.bytes b r ≡ b
 
   key_open : (k e : ℕ) → iq.opened_bytes b (iq.opening (length b) k e) ≡ b

@@ -1,4 +1,4 @@
-use Rattle.multi_class_queue.proofs.Calls.{mean}
+use Rattle.multi_class_queue.proofs.Mean.{mean}
 use Rattle.multi_class_queue.proofs.meaning.Goals as goal
 
 pub returns : goal.returns

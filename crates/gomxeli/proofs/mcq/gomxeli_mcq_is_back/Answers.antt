@@ -1,6 +1,0 @@
-use mathlib.Core.Path.{ap, ◌∙◌}
-use Rattle.gomxeli.specs.Answers.{list_answer}
-use Rattle.gomxeli.proofs.mcq.gomxeli_mcq_is_back.Goals as goal
-
-pub returns : goal.returns
-returns c = c.list_answer.ensures ∙ ap list_answer c.is_back.ensures

@@ -1,5 +1,5 @@
 -- How the calls of list queues and key queues end.
-use Prim.Native.Nat.{ℕ, suc}
+use Prim.Native.Nat.{ℕ}
 use mathlib.Core.Path.{◌≡◌, refl}
 use mathlib.Core.Bool.{Bool, true, false, ◌&&◌, ◌||◌}
 use mathlib.Core.List.{List, [], ◌∷◌}
@@ -9,7 +9,6 @@ use borrow.Author.Tests.{eq-eqb}
 use Rattle.state.specs.Lengths.{lists_allowed, lists_length, keys_allowed, keys_length}
 use Rattle.state.specs.Result.{Result, refuse}
 use Rattle.state.specs.Outcome.{Outcome}
-use Rattle.state.proofs.Tests.{by_cond}
 use Rattle.multi_cycle_list.specs.Lists as lists
 use Rattle.multi_cycle_list.specs.Nodes as nodes
 use Rattle.std.specs.Prelude.{Option, Some, None}

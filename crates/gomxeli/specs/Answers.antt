@@ -15,8 +15,6 @@ use Rattle.rx_req.specs.declared.Answer as request
 use Rattle.rx_req.specs.declared.Answer.TheVariants as request-says
 use Rattle.tx_queue.specs.declared.Answer as transmit
 use Rattle.tx_queue.specs.declared.Answer.TheVariants as transmit-says
-use Rattle.index_queue.specs.declared.Answer as key
-use Rattle.index_queue.specs.declared.Answer.TheVariants as key-says
 
 unfoldable pub packed : ℕ → ℕ → ℕ → ℕ → ℕ
 packed number what first second = number + 256 * what + 65536 * first + 4294967296 * second
@@ -62,16 +60,6 @@ option_first None = packed 0 0 0 0
 abbrev pub option_second : Option ℕ → ℕ
 option_second (Some x) = packed 0 1 0 x
 option_second None = packed 0 0 0 0
-
--- a key queue's answer: 14 is an insert that was not taken, with its key and value
-abbrev pub key_answer : key.Answer → ℕ
-key_answer (key-says.Refused n) = packed n 0 0 0
-key_answer (key-says.NotTaken k v) = packed 14 0 k v
-key_answer key-says.Done = packed 0 0 0 0
-key_answer key-says.Nothing = packed 0 0 0 0
-key_answer (key-says.Key k) = packed 0 1 k 0
-key_answer (key-says.Value v) = packed 0 1 0 v
-key_answer (key-says.Holds b) = packed 0 (to_nat b) 0 0
 
 -- the regular registry's answer: what 1 is a wake, an entry pointed at or named, or an added subject; what 2 is a removed range
 abbrev pub regular_answer : regular.Answer → ℕ

@@ -16,7 +16,7 @@ use Rattle.tx_queue.specs.Steps.{reported}
 use Rattle.tx_queue.specs.Calls as txr
 use Rattle.tx_msg.specs.Steps as txm_steps
 use Rattle.tx_msg.specs.Calls as txm
-use Rattle.gomxeli.specs.Answers.{answered, done, flag, option_first, key_answer, regular_answer, loop_back_answer, request_answer, transmit_answer}
+use Rattle.gomxeli.specs.Answers.{answered, done, flag, option_first, option_second, regular_answer, loop_back_answer, request_answer, transmit_answer}
 
 pub record Outcome : Type 0 where
   pub answer : ℕ
@@ -70,17 +70,17 @@ does (McqIsBack e) b = reads option_first b (mcq.on (mcq.is_back e) b)
 does (McqRemove e) b = writes done mcq.bytes b (mcq.on (mcq.remove e) b)
 does (McqMoveFront c e) b = writes done mcq.bytes b (mcq.on (mcq.move_front c e) b)
 does (McqMoveBack c e) b = writes done mcq.bytes b (mcq.on (mcq.move_back c e) b)
-does (IqOpen k e) b = changes key_answer iq.opened_bytes b (iq.opening (length b) k e)
-does (IqContains k) b = asks key_answer b (iq.on (iq.contains k) b)
-does (IqGet k) b = asks key_answer b (iq.on (iq.get k) b)
-does (IqGetMut k v) b = changes key_answer iq.bytes b (iq.on (iq.get_mut k v) b)
-does (IqInsert k v) b = changes key_answer iq.bytes b (iq.on (iq.insert k v) b)
-does (IqRemove k) b = changes key_answer iq.bytes b (iq.on (iq.remove k) b)
-does IqFront b = asks key_answer b (iq.on iq.front b)
-does IqBack b = asks key_answer b (iq.on iq.back b)
-does (IqEnqueueFront k) b = changes key_answer iq.bytes b (iq.on (iq.enqueue_front k) b)
-does (IqEnqueueBack k) b = changes key_answer iq.bytes b (iq.on (iq.enqueue_back k) b)
-does (IqDequeue k) b = changes key_answer iq.bytes b (iq.on (iq.dequeue k) b)
+does (IqOpen k e) b = writes done iq.opened_bytes b (iq.opening (length b) k e)
+does (IqContains k) b = reads flag b (iq.on (iq.contains k) b)
+does (IqGet k) b = reads option_second b (iq.on (iq.get k) b)
+does (IqGetMut k v) b = writes flag iq.bytes b (iq.on (iq.get_mut k v) b)
+does (IqInsert k v) b = writes option_second iq.bytes b (iq.on (iq.insert k v) b)
+does (IqRemove k) b = writes option_second iq.bytes b (iq.on (iq.remove k) b)
+does IqFront b = reads option_first b (iq.on iq.front b)
+does IqBack b = reads option_first b (iq.on iq.back b)
+does (IqEnqueueFront k) b = writes done iq.bytes b (iq.on (iq.enqueue_front k) b)
+does (IqEnqueueBack k) b = writes done iq.bytes b (iq.on (iq.enqueue_back k) b)
+does (IqDequeue k) b = writes done iq.bytes b (iq.on (iq.dequeue k) b)
 does (RegOpen n) b = changes regular_answer regular.opened_bytes b (regular.opening (length b) n)
 does (RegRegister e x) b = changes regular_answer regular.bytes b (regular.on (steps.register e x) b)
 does (RegUnregister e) b = changes regular_answer regular.bytes b (regular.on (steps.unregister e) b)

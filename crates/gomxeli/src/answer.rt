@@ -1,7 +1,7 @@
 // Answers as one number each, laid out as specs/Answers.antt has it.
 ghost use Rattle.std.specs.Prelude.{◌≡◌, ℕ};
 ghost use Rattle.state.specs.Seq.{to_nat};
-ghost use Rattle.gomxeli.specs.Answers.{packed, done, flag, answered, option_first, option_second, key_answer, regular_answer, loop_back_answer, request_answer, transmit_answer, priority_answer, eot_answer};
+ghost use Rattle.gomxeli.specs.Answers.{packed, done, flag, answered, option_first, option_second, regular_answer, loop_back_answer, request_answer, transmit_answer, priority_answer, eot_answer};
 
 use emcyphal_core::{Priority, PrioritySet};
 use state::Refusal;
@@ -96,20 +96,6 @@ pub fn set_answer(s: PrioritySet) -> u64
     ensures { result ≡ packed 0 0 s 0 }
 {
     byte_answer(s.into_bits())
-}
-
-pub fn key_answer(a: index_queue::Answer) -> u64
-    ensures { result ≡ key_answer a }
-{
-    match a {
-        index_queue::Answer::Refused(n) => pack(n, 0, 0, 0),
-        index_queue::Answer::NotTaken(k, v) => pack(14, 0, k, v),
-        index_queue::Answer::Done => pack(0, 0, 0, 0),
-        index_queue::Answer::Nothing => pack(0, 0, 0, 0),
-        index_queue::Answer::Key(k) => pack(0, 1, k, 0),
-        index_queue::Answer::Value(v) => pack(0, 1, 0, v),
-        index_queue::Answer::Holds(b) => holds(b),
-    }
 }
 
 pub fn regular_answer(a: regular::Answer) -> u64

@@ -8,4 +8,5 @@ pub mod Facts
 pub mod Round
 pub mod Acts
 pub mod Held
+pub mod Sizes
 pub mod Fresh

@@ -1,11 +1,9 @@
 -- What the inner functions store and answer. No contract of a public call cites this.
-use Rattle.std.specs.Prelude.{ℕ, ◌+◌, ◌*◌, ◌/◌, ◌%◌, List, ◌++◌, set, take, drop}
+use Rattle.std.specs.Prelude.{ℕ, ◌+◌, ◌*◌, ◌/◌, ◌%◌, List, ◌++◌, set, take, drop, Option, Some, None}
 use Rattle.multi_cycle_list.specs.Lists.{Lists}
 use Rattle.multi_cycle_list.specs.Laid as lists
 use Rattle.index_entries.specs.Keys.{Slot, free, holds, spent, Found, missing, at}
 use Rattle.index_entries.specs.Bytes.{entries}
-use Rattle.index_entries.specs.declared.look.Place.{Place}
-use Rattle.index_entries.specs.declared.look.Place.TheVariants.{At, Nowhere}
 use Rattle.index_entries.specs.declared.look.Held.{Held}
 use Rattle.index_entries.specs.declared.look.Held.TheVariants.{Value, Spent, Free}
 
@@ -21,9 +19,9 @@ with_list s l = take 2 s ++ (lists.laid l ++ drop (6 + 2 * entries s) (drop 2 s)
 
 -- ---- answers, from the plain meaning
 
-abbrev pub place_of : Found → Place
-place_of missing = Nowhere
-place_of (at i s) = At i
+abbrev pub index_of : Found → Option ℕ
+index_of missing = None
+index_of (at i s) = Some i
 
 -- what an entry holds, with its key
 abbrev pub held_of : Slot → Held

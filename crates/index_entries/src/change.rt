@@ -16,8 +16,9 @@ fn set_word(s: &mut [u8], a: usize, w: u16)
     requires { a + 1 < length s.old }
     ensures { s.new ≡ set_word s.old a w }
 {
-    s[a] = (w % 256) as u8;
-    s[a + 1] = (w / 256) as u8;
+    let [low, high] = w.to_le_bytes();
+    s[a] = low;
+    s[a + 1] = high;
 }
 
 fn set_long(s: &mut [u8], a: usize, v: u32)
@@ -80,11 +81,10 @@ pub fn take_entry(s: &mut [u8], i: usize, key: u16, v: u32)
     ensures { s.new ≡ laid (changed i (holds key v) (without_entry i (read s.old).lists) (read s.old)) s.old }
 {
     let n = s[3] as usize;
-    let k = key as usize;
     list_remove(s, i);
     set_word(s, 8 + 2 * n + 2 * i, key);
     set_long(s, 8 + 4 * n + 4 * i, v);
-    s[8 + 8 * n + k] = i as u8;
+    s[8 + 8 * n + key as usize] = i as u8;
 }
 
 // The entry `i`, which has the key `key` and a value, has neither any more, and joins the back of the free entries.
@@ -93,10 +93,9 @@ pub fn free_entry(s: &mut [u8], i: usize, key: u16)
     ensures { s.new ≡ laid (changed i free (moved_back 1 i (read s.old).lists) (read s.old)) s.old }
 {
     let n = s[3] as usize;
-    let k = key as usize;
     list_back(s, 1, i);
     set_word(s, 8 + 2 * n + 2 * i, 65535);
-    s[8 + 8 * n + k] = 255;
+    s[8 + 8 * n + key as usize] = 255;
 }
 
 pub fn queue_front(s: &mut [u8], i: usize)
@@ -125,10 +124,8 @@ fn free_all(q: &mut [u8], n: usize)
     requires { (n ≤ 222) × (q.old ≡ lists.laid (empty 2 n)) }
     ensures { q.new ≡ lists.laid (free_first n n) }
 {
-    let mut i = 0;
-    while i < n {
+    for i in 0..n {
         inner_move_back(q, 1, i);
-        i += 1;
     }
 }
 

@@ -2,28 +2,22 @@
 ghost use Rattle.std.specs.Prelude.{◌≡◌, true, ◌+◌, ◌*◌, ◌<◌, ◌≤◌, length};
 ghost use Rattle.index_entries.specs.Keys.{slot, found};
 ghost use Rattle.index_entries.specs.Bytes.{word_at, entries, value, read, whole_b};
-ghost use Rattle.index_entries.specs.Inner.{place_of, held_of};
-
-// The entry that has a key, or none.
-#[derive(Clone, Copy)]
-pub enum Place {
-    At(usize),
-    Nowhere,
-}
+ghost use Rattle.index_entries.specs.Inner.{index_of, held_of};
 
 // What an entry holds: a key and its value; a key whose value was handed back; nothing.
-#[derive(Clone, Copy)]
+// Three names read plainer than `Option<(u16, Option<u32>)>`, and each keeps its key.
+#[derive(Clone, Copy, Debug, PartialEq, Eq)]
 pub enum Held {
     Value(u16, u32),
     Spent(u16),
     Free,
 }
 
-pub fn word(s: &[u8], a: usize) -> usize
+pub fn word(s: &[u8], a: usize) -> u16
     requires { a + 1 < length s.now }
-    ensures { (result ≡ word_at s.now a) × (result < 65536) }
+    ensures { result ≡ word_at s.now a }
 {
-    (s[a] as usize) + 256 * (s[a + 1] as usize)
+    u16::from_le_bytes([s[a], s[a + 1]])
 }
 
 // Where the lists end, which begin at byte 2.
@@ -31,23 +25,21 @@ pub fn lists_end(s: &[u8]) -> usize
     requires { whole_b s.now ≡ true }
     ensures { (result ≡ 8 + 2 * entries s.now) × (result ≤ length s.now) }
 {
-    8 + 2 * (s[3] as usize)
+    8 + 2 * usize::from(s[3])
 }
 
-pub fn get_index(s: &[u8], key: u16) -> Place
+// The entry that has the key, if any.
+#[tactic(auto, using(crate::proofs::Sizes::length_is, crate::proofs::Sizes::few_entries, crate::proofs::Sizes::low_keys, crate::proofs::Held::index_in, crate::proofs::Held::index_out, crate::proofs::Held::index_past))]
+pub fn get_index(s: &[u8], key: u16) -> Option<usize>
     requires { whole_b s.now ≡ true }
-    ensures { result ≡ place_of (found (read s.now) key) }
+    ensures { result ≡ index_of (found (read s.now) key) }
 {
-    let k = key as usize;
-    if word(s, 0) < k {
-        return Place::Nowhere;
+    if word(s, 0) < key {
+        return None;
     }
-    let n = s[3] as usize;
-    let x = s[8 + 8 * n + k] as usize;
-    if x < n {
-        return Place::At(x);
-    }
-    Place::Nowhere
+    let n = usize::from(s[3]);
+    let i = usize::from(s[8 + 8 * n + usize::from(key)]);
+    if i < n { Some(i) } else { None }
 }
 
 // The value of the entry `i`.
@@ -55,23 +47,24 @@ pub fn value_at(s: &[u8], i: usize) -> u32
     requires { (whole_b s.now ≡ true) × (i < entries s.now) }
     ensures { result ≡ value (entries s.now) s.now i }
 {
-    let n = s[3] as usize;
+    let n = usize::from(s[3]);
     let low = word(s, 8 + 4 * n + 4 * i);
     let high = word(s, 10 + 4 * n + 4 * i);
-    (low + 65536 * high) as u32
+    u32::from(low) + 65536 * u32::from(high)
 }
 
+#[tactic(auto, using(crate::proofs::Sizes::length_is, crate::proofs::Sizes::few_entries, crate::proofs::Sizes::low_keys, crate::proofs::Held::held_value, crate::proofs::Held::held_spent, crate::proofs::Held::held_free))]
 pub fn held_at(s: &[u8], i: usize) -> Held
     requires { (whole_b s.now ≡ true) × (i < entries s.now) }
     ensures { result ≡ held_of (slot (read s.now) i) }
 {
-    let n = s[3] as usize;
+    let n = usize::from(s[3]);
     let w = word(s, 8 + 2 * n + 2 * i);
     if w < 8192 {
-        return Held::Value(w as u16, value_at(s, i));
+        Held::Value(w, value_at(s, i))
+    } else if w < 16384 {
+        Held::Spent(w - 8192)
+    } else {
+        Held::Free
     }
-    if w < 16384 {
-        return Held::Spent((w - 8192) as u16);
-    }
-    Held::Free
 }

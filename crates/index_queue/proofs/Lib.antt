@@ -1,2 +1,3 @@
-pub mod Calls
+pub mod Finding
+pub mod Ends
 pub mod Mean

@@ -3,7 +3,7 @@ use Prim.Native.Nat.{ℕ, ◌^◌, ◌<◌, ◌≤◌}
 use mathlib.Core.Path.{◌≡◌, refl, sym, ap, ◌∙◌, subst}
 use mathlib.Core.Logic.{inl}
 use mathlib.Core.List.{List, [], ◌∷◌}
-use mathlib.Core.Bool.{Bool, true, false, cond}
+use mathlib.Core.Bool.{Bool, true, false}
 use native.Mathlib.Omega.{arith}
 use native.Mathlib.Decide.{dec_lt}
 use lib.ListN.{length, replicate, length-set, length-replicate, get_or-replicate, get_or-eq_default}
@@ -11,9 +11,12 @@ use lib.Seq.{set-get_or}
 use lib.Dec.{ltb, eqb}
 use borrow.Author.Tests.{ltb-false, eqb-true}
 use Rattle.state.specs.Lengths.{keys_allowed, keys_length}
-use Rattle.state.specs.Result.{Result, refuse, done, left, Bytes}
+use Rattle.std.specs.Prelude.{Option}
+use Rattle.state.specs.Outcome.{Outcome, refuse, done, left}
+use Rattle.state.specs.Result.{Bytes}
+use Rattle.state.specs.declared.Refusal.TheVariants.{NotWhole, Size, NotTaken}
 use Rattle.state.proofs.Tests.{not-both, by_cond}
-use Rattle.state.proofs.Calls.{means_of}
+use Rattle.state.proofs.Outcomes.{opened-is, means_of}
 use Rattle.multi_cycle_list.specs.Lists.{Lists, count, row, without_entry, moved_front, moved_back}
 use Rattle.multi_cycle_list.proofs.Lists.{in_count}
 use Rattle.index_entries.specs.Keys.{Slot, free, holds, spent, Keys, has_key, is_free, slot, Found, missing, at, found, Within, ValidKeys, with_slot, with_lists, fresh}
@@ -26,9 +29,7 @@ use Rattle.index_entries.proofs.Facts.{facts_of, slots_length, read-valid, laid_
 use Rattle.index_entries.proofs.Round.{laid_whole, read_laid, laid_bytes}
 use Rattle.index_entries.proofs.Fresh.{fresh-valid}
 use Rattle.index_queue.specs.Calls.{contains, get, stored_in, get_mut, insert_new, insert_in, insert, remove_in, remove, front, back, queue_in, enqueue_front, enqueue_back, dequeue, opening, Call, Contains, Get, Remove, EnqueueFront, EnqueueBack, Dequeue, GetMut, Insert, Front, Back, step, Sized, KeysMean}
-use Rattle.index_queue.specs.declared.Answer.{Answer}
-use Rattle.index_queue.specs.declared.Answer.TheVariants.{Refused, NotTaken, Done}
-use Rattle.index_queue.proofs.Calls.{in_size}
+use Rattle.index_queue.proofs.Ends.{in_size}
 
 module _ (m : Keys) (f : ValidKeys m) where
   -- the entry that has the key k gets another slot with the same key
@@ -95,14 +96,14 @@ step_valid (EnqueueBack k) m f = queue-valid m f (moved_back 0) (λ i h. moves_b
 step_valid (Dequeue k) m f = queue-valid m f without_entry (λ i h. moves_gone m f i h) k (found m k) (looks k m.slots)
 step_valid (GetMut k v h) m f = stored_valid m f k v h (found m k) (looks k m.slots)
 step_valid (Insert k v h) m f =
-    by_cond (λ r. ValidKeys (left m r)) (ltb m.k_max k) {a = refuse (NotTaken k v)} {b = insert_in k v m (found m k)} (λ q. f) (λ q. insert-valid m f k v h (ltb-false m.k_max k q) (found m k) (looks k m.slots))
+    by_cond (λ (r : Outcome (Option ℕ) Keys). ValidKeys (left m r)) (ltb m.k_max k) {a = refuse (NotTaken k v)} {b = insert_in k v m (found m k)} (λ q. f) (λ q. insert-valid m f k v h (ltb-false m.k_max k q) (found m k) (looks k m.slots))
 step_valid Front m f = f
 step_valid Back m f = f
 
 -- ---- sizes
 
 -- a result keeps the sizes
-abbrev Same : Keys → Result Answer Keys → Type 0
+abbrev Same : {A : Type 0} → Keys → Outcome A Keys → Type 0
 Same m r = ((left m r).k_max ≡ m.k_max) × (length (left m r).slots ≡ length m.slots)
 
 module _ (m : Keys) where
@@ -141,7 +142,7 @@ step_same (EnqueueFront k) m = queue-same m (moved_front 0) (found m k)
 step_same (EnqueueBack k) m = queue-same m (moved_back 0) (found m k)
 step_same (Dequeue k) m = queue-same m without_entry (found m k)
 step_same (GetMut k v h) m = stored_same m v (found m k)
-step_same (Insert k v h) m = by_cond (λ r. Same m r) (ltb m.k_max k) (λ q. (refl, refl)) (λ q. insert-same m k v (found m k))
+step_same (Insert k v h) m = by_cond (λ (r : Outcome (Option ℕ) Keys). Same m r) (ltb m.k_max k) (λ q. (refl, refl)) (λ q. insert-same m k v (found m k))
 step_same Front m = (refl, refl)
 step_same Back m = (refl, refl)
 
@@ -155,11 +156,6 @@ step_sized c m n f z =
 read-sized : (b : List ℕ) → whole_b b ≡ true → Sized (read b) (length b)
 read-sized b h = (facts_of b h).len ∙ ap (keys_length (k_max b)) (sym (slots_length b))
 
-open_inv : (p l : Bool) (m₀ : Keys) (a : Answer) (m : Keys) → cond p (cond l (done Done m₀) (refuse (Refused 1))) (refuse (Refused 13)) ≡ done a m → (p ≡ true) × ((l ≡ true) × (m₀ ≡ m))
-open_inv true true m₀ a m q = (refl, (refl, cc))
-open_inv true false m₀ a m q = absurd (let z : ◌≡◌ {A = ℕ} 0 1 = cc in omega arith)
-open_inv false l m₀ a m q = absurd (let z : ◌≡◌ {A = ℕ} 0 1 = cc in omega arith)
-
 fill_bytes : (n : ℕ) → Bytes (replicate n 255)
 fill_bytes n i =
     elim (dec_lt i n) [
@@ -167,17 +163,20 @@ fill_bytes n i =
       | no q ↦ omega (arith, get_or-eq_default {A = ℕ} (replicate n 255) 0 {n = i} (omega (arith, length-replicate {A = ℕ} n 255)))
     ]
 
-opened : (n k e : ℕ) (a : Answer) (m : Keys) → opening n k e ≡ done a m → whole_b (laid m (replicate n 255)) ≡ true
+opened : (n k e : ℕ) (a : Unit {0}) (m : Keys) → opening n k e ≡ done a m → whole_b (laid m (replicate n 255)) ≡ true
 unfolding opening
-opened n k e a m q =
-    let i = open_inv (keys_allowed k e) (eqb n (keys_length k e)) (fresh k e) a m q in
+opened n k e a m =
+    by_cond (λ (o : Outcome (Unit {0}) Keys). o ≡ done a m → whole_b (laid m (replicate n 255)) ≡ true) (keys_allowed k e)
+    (λ h q.
+    let i = opened-is (eqb n (keys_length k e)) tt NotWhole (fresh k e) a m q in
     let l : length {A = Slot} (replicate e free) ≡ e = length-replicate {A = Slot} e free in
-    subst (λ (x : Keys). whole_b (laid x (replicate n 255)) ≡ true) i.1.1
-    (laid_whole (fresh k e) (replicate n 255) (fill_bytes n) (fresh-valid k e i.0) (length-replicate {A = ℕ} n 255 ∙ eqb-true n (keys_length k e) i.1.0 ∙ ap (keys_length k) (sym l)))
+    subst (λ (x : Keys). whole_b (laid x (replicate n 255)) ≡ true) i.1
+    (laid_whole (fresh k e) (replicate n 255) (fill_bytes n) (fresh-valid k e h) (length-replicate {A = ℕ} n 255 ∙ eqb-true n (keys_length k e) i.0 ∙ ap (keys_length k) (sym l))))
+    (λ h q. not-both (sym (opened-is false a Size m a m q).0))
 
 pub mean : KeysMean
 mean =
     record {
       opened = opened;
-      meaning = means_of whole_b read laid (Refused 1) ValidKeys Sized laid_bytes laid_whole read_laid step (λ b y h. read-valid b (facts_of b h) y) read-sized (λ b y h. laid_read b (facts_of b h) y) step_valid step_sized;
+      meaning = means_of whole_b read laid ValidKeys Sized laid_bytes laid_whole read_laid step (λ b y h. read-valid b (facts_of b h) y) read-sized (λ b y h. laid_read b (facts_of b h) y) step_valid step_sized;
     }

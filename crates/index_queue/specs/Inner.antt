@@ -1,24 +1,29 @@
 -- What the inner functions answer. No contract of a public call cites this.
-use Rattle.std.specs.Prelude.{ℕ, ◌<◌, ◌≡◌, true, false, List, Option, Some, None}
-use Rattle.index_entries.specs.Keys.{holds, spent, slot, missing, at, found}
+use Rattle.std.specs.Prelude.{ℕ, ◌<◌, List, cond, Option, Some, None, Result, Ok, Err}
+use Rattle.state.specs.declared.Refusal.{Refusal}
+use Rattle.state.specs.declared.Refusal.TheVariants.{NotWhole}
+use Rattle.index_entries.specs.Keys.{Found, missing, at, found}
 use Rattle.index_entries.specs.Bytes.{whole_b, read}
-use Rattle.index_queue.specs.declared.Found.{Found}
-use Rattle.index_queue.specs.declared.Found.TheVariants as place
-use Rattle.index_queue.specs.declared.FoundValue.{FoundValue}
-use Rattle.index_queue.specs.declared.FoundValue.TheVariants as value
+use Rattle.index_entries.specs.Inner.{index_of, held_of}
+use Rattle.index_entries.specs.declared.look.Held.{Held}
+use Rattle.index_entries.specs.declared.look.Held.TheVariants.{Value, Spent, Free}
 
 -- where the key k has its entry
-abbrev pub Finds : List ℕ → ℕ → Found → Type 0
-Finds s k place.NotWhole = whole_b s ≡ false
-Finds s k place.Nowhere = (whole_b s ≡ true) × (found (read s) k ≡ missing)
-Finds s k (place.At i) = (whole_b s ≡ true) × (found (read s) k ≡ at i (slot (read s) i))
+abbrev pub find : List ℕ → ℕ → Result (Option ℕ) Refusal
+find s k = cond (whole_b s) (Ok (index_of (found (read s) k))) (Err NotWhole)
 
--- and what it holds
-abbrev pub FindsValue : List ℕ → ℕ → FoundValue → Type 0
-FindsValue s k value.NotWhole = whole_b s ≡ false
-FindsValue s k value.Nowhere = (whole_b s ≡ true) × (found (read s) k ≡ missing)
-FindsValue s k value.Spent = (whole_b s ≡ true) × ((i : ℕ) × (found (read s) k ≡ at i (spent k)))
-FindsValue s k (value.Value i v) = (whole_b s ≡ true) × (found (read s) k ≡ at i (holds k v))
+abbrev pub value_of : Held → Option ℕ
+value_of (Value k v) = Some v
+value_of (Spent k) = None
+value_of Free = None
+
+abbrev pub with_value : Found → Option (ℕ × Option ℕ)
+with_value missing = None
+with_value (at i s) = Some (i, value_of (held_of s))
+
+-- and its value, none where it was handed back
+abbrev pub find_value : List ℕ → ℕ → Result (Option (ℕ × Option ℕ)) Refusal
+find_value s k = cond (whole_b s) (Ok (with_value (found (read s) k))) (Err NotWhole)
 
 -- an entry, if any, is one of n
 abbrev pub Below : ℕ → Option ℕ → Type 0

@@ -1,5 +1,2 @@
 pub mod SizeLaws
 pub mod ListLaws
-pub mod SlotLaws
-pub mod KeyLaws
-pub mod Turns

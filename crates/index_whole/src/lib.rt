@@ -10,21 +10,16 @@ ghost use Rattle.index_whole.specs.Inner.{Sized, Freed, Listed};
 use index_entries::look::word;
 use multi_cycle_list::whole::whole_marked;
 
+#[tactic(auto, using(crate::proofs::SizeLaws::sizes_are, crate::proofs::SizeLaws::too_short))]
 fn sizes(s: &[u8]) -> bool
     ensures { result ≡ sizes_b s.now }
 {
     if s.len() < 11 {
         return false;
     }
-    let k = word(s, 0);
-    if 8191 < k {
-        return false;
-    }
-    let n = s[3] as usize;
-    if 222 < n {
-        return false;
-    }
-    s.len() == 11 + 8 * n + 4 * ((k + 1) / 4)
+    let k = usize::from(word(s, 0));
+    let n = usize::from(s[3]);
+    k <= 8191 && n <= 222 && s.len() == 11 + 8 * n + 4 * ((k + 1) / 4)
 }
 
 // Marks the node of each free entry with 2.
@@ -44,33 +39,20 @@ fn slot_ok(s: &[u8], seen: &[u8], n: usize, k: usize, i: usize) -> bool
     requires { (i < n) × ((length seen.now ≡ 256) × (Freed s.now seen.now × Sized s.now n k)) }
     ensures { result ≡ slot_b s.now i (slot_at s.now i) }
 {
-    let w = word(s, 8 + 2 * n + 2 * i);
+    let w = usize::from(word(s, 8 + 2 * n + 2 * i));
     let mark = seen[2 + i];
     if 16384 <= w {
         return mark == 2;
     }
     let key = w % 8192;
-    if k < key {
-        return false;
-    }
-    if s[8 + 8 * n + key] as usize != i {
-        return false;
-    }
-    mark != 2
+    key <= k && usize::from(s[8 + 8 * n + key]) == i && mark != 2
 }
 
 fn slots(s: &[u8], seen: &[u8], n: usize, k: usize) -> bool
     requires { (length seen.now ≡ 256) × (Freed s.now seen.now × Sized s.now n k) }
     ensures { result ≡ all_b (entries s.now) (λ i. slot_b s.now i (slot_at s.now i)) }
 {
-    let mut i = 0;
-    while i < n {
-        if slot_ok(s, seen, n, k, i) {} else {
-            return false;
-        }
-        i += 1;
-    }
-    true
+    (0..n).all(|i| slot_ok(s, seen, n, k, i))
 }
 
 // The index names no entry at the key j, or one that has the key.
@@ -78,45 +60,30 @@ fn key_ok(s: &[u8], n: usize, k: usize, j: usize) -> bool
     requires { (j ≤ k) × Sized s.now n k }
     ensures { result ≡ key_b s.now j }
 {
-    let x = s[8 + 8 * n + j] as usize;
+    let x = usize::from(s[8 + 8 * n + j]);
     if n <= x {
         return true;
     }
-    let w = word(s, 8 + 2 * n + 2 * x);
-    if w == j {
-        return true;
-    }
-    w == 8192 + j
+    let w = usize::from(word(s, 8 + 2 * n + 2 * x));
+    w == j || w == 8192 + j
 }
 
 fn keys(s: &[u8], n: usize, k: usize) -> bool
     requires { Sized s.now n k }
     ensures { result ≡ all_b (k_max s.now + 1) (key_b s.now) }
 {
-    let mut j = 0;
-    while j <= k {
-        if key_ok(s, n, k, j) {} else {
-            return false;
-        }
-        j += 1;
-    }
-    true
+    (0..k + 1).all(|j| key_ok(s, n, k, j))
 }
 
+#[tactic(auto, using(crate::proofs::SizeLaws::whole_is, crate::proofs::SizeLaws::long, crate::proofs::SizeLaws::sized, crate::proofs::SizeLaws::no_marks))]
 pub fn whole(s: &[u8]) -> bool
     ensures { result ≡ whole_b s.now }
 {
-    if sizes(s) {} else {
+    if !sizes(s) {
         return false;
     }
-    let n = s[3] as usize;
-    let k = word(s, 0);
+    let n = usize::from(s[3]);
+    let k = usize::from(word(s, 0));
     let mut seen = [0u8; 256];
-    if lists(s, &mut seen, n, k) {} else {
-        return false;
-    }
-    if slots(s, &seen, n, k) {} else {
-        return false;
-    }
-    keys(s, n, k)
+    lists(s, &mut seen, n, k) && slots(s, &seen, n, k) && keys(s, n, k)
 }

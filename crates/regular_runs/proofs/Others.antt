@@ -21,8 +21,6 @@ use Rattle.index_entries.specs.Keys as keyed
 use Rattle.index_entries.specs.Bytes as entries
 use Rattle.index_entries.specs.Laid as laid
 use Rattle.index_queue.specs.Calls as iq
-use Rattle.index_queue.specs.declared.Answer as key
-use Rattle.index_queue.specs.declared.Answer.TheVariants as key-says
 use Rattle.entry_tree.specs.Places as tree
 use Rattle.loop_back.specs.Registry as loop_back
 use Rattle.loop_back.specs.Bytes as lb_bytes
@@ -83,8 +81,8 @@ module _ (b : List ℕ) (l : length b ≡ regular_length) where
   list-call : {A : Type 0} (f : plain.Lists → Outcome A plain.Lists) → mcq.bytes b (mcq.on f b) ≡ b
   list-call f = sym (outcomes.not-whole nodes.whole_b nodes.read mcq.over f b not-lists).1
 
-  key-call : (f : keyed.Keys → Result key.Answer keyed.Keys) → iq.bytes b (iq.on f b) ≡ b
-  key-call f = sym (not-whole entries.whole_b entries.read laid.laid (key-says.Refused 1) f b not-keys).1
+  key-call : {A : Type 0} (f : keyed.Keys → Outcome A keyed.Keys) → iq.bytes b (iq.on f b) ≡ b
+  key-call f = sym (outcomes.not-whole entries.whole_b entries.read laid.laid f b not-keys).1
 
   list_open : (c e : ℕ) → mcq.bytes b (mcq.opening (length b) c e) ≡ b
   unfolding mcq.opening
@@ -103,7 +101,7 @@ module _ (b : List ℕ) (l : length b ≡ regular_length) where
       (λ h. by_cond K (eqb (length b) (keys_length k e)) (λ q. absurd (keys-no k e h (sym l ∙ eqb-true (length b) (keys_length k e) q))) (λ q. refl))
       (λ h. refl)
     where
-      K : Result key.Answer keyed.Keys → Type 0
+      K : Outcome (Unit {0}) keyed.Keys → Type 0
       K r = iq.opened_bytes b r ≡ b
 
   -- the registries of one length

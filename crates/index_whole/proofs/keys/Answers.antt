@@ -1,25 +1,14 @@
-use borrow.Author.Rules.{rules}
-use Prim.Native.Nat.{◌+◌}
-use native.Mathlib.Omega.{arith}
-use borrow.Author.Count.{below_none}
-use Rattle.index_entries.specs.Bytes.{k_max, key_b}
-use Rattle.index_whole.proofs.Turns.{fails, passes, ends}
+use Rattle.std.proofs.Common.{ℕ, Bool, ◌+◌, ◌∙◌, refl, ap, arith, rules, tests}
+use Rattle.std.proofs.lemmas.Iterator.{YieldsList-from_range}
+use Rattle.std.proofs.lemmas.Iterator.Search.{all_from_yields_List}
+use Rattle.state.specs.Seq.{all_b}
+use Rattle.state.proofs.Seq.{all_over_range}
+use Rattle.index_entries.specs.Bytes.{key_b}
 use Rattle.index_whole.proofs.keys.Goals as goal
 
-pub loop-j-init : goal.loop-j-init
-loop-j-init c = (search rules, below_none _)
-
-pub key_ok-requires : goal.key_ok-requires
-key_ok-requires c = (c.loop-j-test.true, c.requires)
-
-pub returns-else-key_ok : goal.returns-else-key_ok
-returns-else-key_ok c = let s = c.args.s.now in fails (k_max s + 1) (key_b s) c.loop-j.j c.key_ok.result (omega (arith, c.requires.up_to)) c.key_ok.ensures c.if-key_ok.false
-
-pub overflow_add-j : goal.overflow_add-j
-overflow_add-j c = omega (arith, c.requires.most)
-
-pub loop-j-preserved : goal.loop-j-preserved
-loop-j-preserved c = let s = c.args.s.now in (omega arith, passes (key_b s) c.loop-j.j c.key_ok.result c.loop-j.invariant.1 c.key_ok.ensures c.if-key_ok.true)
-
 pub returns : goal.returns
-returns c = let s = c.args.s.now in ends (k_max s + 1) (key_b s) c.loop-j.j (omega (arith, c.requires.up_to)) c.loop-j.invariant.1
+returns c =
+    let a = c.args in
+    let f : ℕ → Bool = key_b a.s.now in
+    all_from_yields_List f _ _ _ c.all.ensures.ran (YieldsList-from_range 0 (a.k + 1) (a.k + 1) refl (omega arith)) (λ x b q k. search (rules, tests)) ∙ all_over_range (a.k + 1) f
+    ∙ ap (λ (n : ℕ). all_b (n + 1) f) c.requires.up_to

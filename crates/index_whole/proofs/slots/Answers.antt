@@ -1,21 +1,14 @@
-use borrow.Author.Rules.{rules}
-use native.Mathlib.Omega.{arith}
-use borrow.Author.Count.{below_none}
-use Rattle.index_entries.specs.Bytes.{entries, slot_at, slot_b}
-use Rattle.index_whole.proofs.Turns.{fails, passes, ends}
+use Rattle.std.proofs.Common.{ℕ, Bool, ◌∙◌, refl, ap, arith, rules, tests}
+use Rattle.std.proofs.lemmas.Iterator.{YieldsList-from_range}
+use Rattle.std.proofs.lemmas.Iterator.Search.{all_from_yields_List}
+use Rattle.state.specs.Seq.{all_b}
+use Rattle.state.proofs.Seq.{all_over_range}
+use Rattle.index_entries.specs.Bytes.{slot_at, slot_b}
 use Rattle.index_whole.proofs.slots.Goals as goal
 
-pub loop-i-init : goal.loop-i-init
-loop-i-init c = (search rules, below_none _)
-
-pub slot_ok-requires : goal.slot_ok-requires
-slot_ok-requires c = (c.loop-i-test.true, c.requires)
-
-pub returns-else-slot_ok : goal.returns-else-slot_ok
-returns-else-slot_ok c = let s = c.args.s.now in fails (entries s) (λ j. slot_b s j (slot_at s j)) c.loop-i.i c.slot_ok.result (omega (arith, c.requires.1.1.has)) c.slot_ok.ensures c.if-slot_ok.false
-
-pub loop-i-preserved : goal.loop-i-preserved
-loop-i-preserved c = let s = c.args.s.now in (omega arith, passes (λ j. slot_b s j (slot_at s j)) c.loop-i.i c.slot_ok.result c.loop-i.invariant.1 c.slot_ok.ensures c.if-slot_ok.true)
-
 pub returns : goal.returns
-returns c = let s = c.args.s.now in ends (entries s) (λ j. slot_b s j (slot_at s j)) c.loop-i.i (omega (arith, c.requires.1.1.has)) c.loop-i.invariant.1
+returns c =
+    let a = c.args in
+    let f : ℕ → Bool = λ i. slot_b a.s.now i (slot_at a.s.now i) in
+    all_from_yields_List f _ _ _ c.all.ensures.ran (YieldsList-from_range 0 a.n a.n refl (omega arith)) (λ x b q k. search (rules, tests)) ∙ all_over_range a.n f
+    ∙ ap (λ (n : ℕ). all_b n f) c.requires.1.1.has

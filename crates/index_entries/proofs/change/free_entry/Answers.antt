@@ -2,54 +2,20 @@ use borrow.Author.Rules.{rules}
 use native.Mathlib.Omega.{arith}
 use Prim.Native.Nat.{ℕ, ◌+◌, ◌*◌}
 use mathlib.Core.Path.{sym, ap, ◌∙◌}
-use Rattle.state.proofs.Tests.{byte_fits}
 use Rattle.index_entries.proofs.Facts.{facts_of}
 use mathlib.Core.List.{List}
-use lib.ListN.{set, length-set}
+use lib.ListN.{set}
 use Rattle.index_entries.specs.Inner.{set_word, with_list}
 use Rattle.index_entries.specs.Bytes.{entries, read}
 use Rattle.multi_cycle_list.specs.Lists.{moved_back}
 use Rattle.index_entries.proofs.Acts.{bytes_of, in-range, freed-laid}
 use Rattle.index_entries.proofs.change.free_entry.Goals as goal
 
-pub bounds-s-3 : goal.bounds-s-3
-bounds-s-3 c = let f = facts_of c.args.s.now c.requires.0 in omega (arith, f.len, f.few, f.low)
-
-pub overflow_cast-n : goal.overflow_cast-n
-overflow_cast-n c = byte_fits (c.type_inv.s _)
-
-pub overflow_mul-n : goal.overflow_mul-n
-overflow_mul-n c = let f = facts_of c.args.s.now c.requires.0 in omega (arith, f.len, f.few, f.low)
-
-pub overflow_add-n : goal.overflow_add-n
-overflow_add-n c = let f = facts_of c.args.s.now c.requires.0 in omega (arith, f.len, f.few, f.low)
-
-pub overflow_mul-i : goal.overflow_mul-i
-overflow_mul-i c = let f = facts_of c.args.s.now c.requires.0 in omega (arith, f.len, f.few, f.low)
-
-pub overflow_add-n-2 : goal.overflow_add-n-2
-overflow_add-n-2 c = let f = facts_of c.args.s.now c.requires.0 in omega (arith, f.len, f.few, f.low)
-
-pub set_word-requires : goal.set_word-requires
-set_word-requires c = let f = facts_of c.args.s.now c.requires.0 in omega (arith, f.len, f.few, f.low, c.list_back.auto.s)
-
-pub overflow_mul-s : goal.overflow_mul-s
-overflow_mul-s c = let f = facts_of c.args.s.now c.requires.0 in omega (arith, f.len, f.few, f.low)
-
-pub overflow_add-s : goal.overflow_add-s
-overflow_add-s c = let f = facts_of c.args.s.now c.requires.0 in omega (arith, f.len, f.few, f.low)
-
-pub overflow_add-s-2 : goal.overflow_add-s-2
-overflow_add-s-2 c = let f = facts_of c.args.s.now c.requires.0 in omega (arith, f.len, f.few, f.low)
-
 pub bounds-s-n : goal.bounds-s-n
 bounds-s-n c = let s = c.args.s.now in
     let f = facts_of s c.requires.0 in
     let q = c.requires.1.1.0 in
-    omega (arith, f.len, f.few, f.low, c.list_back.auto.s, c.set_word.auto.s, q, in-range s (bytes_of c.args.s.now (search rules)) c.requires.0 c.args.i c.requires.1.0 (omega (arith, q, c.requires.1.1.1)))
-
-pub shape_of-s : goal.shape_of-s
-shape_of-s c = simp length-set (c.set_word.auto.s ∙ c.list_back.auto.s)
+    omega (arith, f.len, f.few, c.list_back.auto.s, c.set_word.auto.s, q, in-range s (bytes_of s (search rules)) c.requires.0 c.args.i c.requires.1.0 (omega (arith, q, c.requires.1.1.1)))
 
 pub returns : goal.returns
 returns c = let s = c.args.s.now in

@@ -1,8 +1,8 @@
 -- Inner: trees that change in one pass, and how far their bytes are written.
-use Rattle.std.specs.Prelude.{ℕ, ◌<◌, ◌≤◌, ◌≡◌, List, [], ◌∷◌, Bool, cond, eqb, ltb, length, get_or}
-use Rattle.entry_tree.specs.Pairs.{Pair, pair, inserted}
-use Rattle.entry_tree.specs.Places.{size}
-use Rattle.entry_tree.specs.Inner.{cell_at, cell_of}
+use Rattle.std.specs.Prelude.{ℕ, ◌+◌, ◌<◌, ◌≤◌, ◌≡◌, List, [], ◌∷◌, Bool, true, cond, eqb, ltb, length, get_or}
+use Rattle.entry_tree.specs.Pairs.{Pair, pair, inserted, in_order}
+use Rattle.entry_tree.specs.Places.{size, read}
+use Rattle.entry_tree.specs.Inner.{IsTree, tree_length, cell_at, cell_of}
 
 -- the pairs that pass a test
 abbrev pub kept : (Pair → Bool) → List Pair → List Pair
@@ -31,3 +31,19 @@ pub record Written (l : List Pair) (t u : List ℕ) (w : ℕ) : Type 0 where
   pub far : w ≤ length l
   pub done : (i : ℕ) → i < w → cell_at u i ≡ cell_of (get_or l i (pair 0 0))
   pub left : (i : ℕ) → w ≤ i → cell_at u i ≡ cell_at t i
+
+-- the pairs without a mark are written in u, over t: w of them
+pub record Kept (gone t u : List ℕ) (w : ℕ) : Type 0 where
+  pub number : w ≡ length (kept (stays gone) (read t))
+  pub few : w ≤ size t
+  pub written : Written (kept (stays gone) (read t)) t u w
+
+-- t is the tree a; the entries of `slots` that join it, by the places of the tree b, fit in
+pub record Mergeable (t a b slots : List ℕ) : Type 0 where
+  pub len : length t ≡ tree_length
+  pub same : t ≡ a
+  pub other : IsTree b
+  pub places : length slots ≡ 128
+  pub room : size a + length (filled slots (read b)) ≤ 128
+  pub order_a : in_order 0 (read a) ≡ true
+  pub order_b : in_order 0 (read b) ≡ true

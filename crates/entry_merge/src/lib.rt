@@ -1,32 +1,26 @@
 // Trees that change in one pass: two become one, and marked pairs leave. Inner: these cross crates and may require.
 #![tactic(auto)]
 
-ghost use Rattle.std.specs.Prelude.{◌≡◌, true, ◌&&◌, ◌||◌, ◌+◌, ◌<◌, ◌≤◌, leb, ltb, length};
-ghost use Rattle.entry_tree.specs.Pairs.{in_order};
+ghost use Rattle.std.specs.Prelude.{◌≡◌, ◌&&◌, ◌||◌, leb, ltb, length};
 ghost use Rattle.entry_tree.specs.Places.{size, subject_at, read, laid};
-ghost use Rattle.entry_tree.specs.Inner.{tree_length};
-ghost use Rattle.entry_merge.specs.Inner.{kept, stays, filled, merged, Written};
+ghost use Rattle.entry_tree.specs.Inner.{IsTree};
+ghost use Rattle.entry_merge.specs.Inner.{Kept, Mergeable, kept, stays, filled, merged};
 
 use entry_tree::{entry_at, len, subject_at, write_place};
 use state::fill;
 
 // Moves the pairs whose entries bear no mark to the front. How many they are.
 fn keep(t: &mut [u8], gone: &[u8]) -> usize
-    requires { (length t.old ≡ tree_length) × ((size t.old ≤ 128) × (length gone.now ≡ 256)) }
-    ensures { (result ≡ length (kept (stays gone.now) (read t.old))) × ((result ≤ size t.old) × Written (kept (stays gone.now) (read t.old)) t.old t.new result) }
+    requires { IsTree t.old × (length gone.now ≡ 256) }
+    ensures { Kept gone.now t.old t.new result }
 {
-    let n = len(t);
     let mut w = 0;
-    let mut i = 0;
-    while i < n {
+    for i in 0..len(t) {
         let e = entry_at(t, i);
-        if gone[e as usize] == 0 {
+        if gone[usize::from(e)] == 0 {
             let x = subject_at(t, i);
             write_place(t, w, e, x);
             w += 1;
-            i += 1;
-        } else {
-            i += 1;
         }
     }
     w
@@ -34,7 +28,7 @@ fn keep(t: &mut [u8], gone: &[u8]) -> usize
 
 // The pairs whose entries bear a mark leave.
 pub fn remove_marked(t: &mut [u8], gone: &[u8])
-    requires { (length t.old ≡ tree_length) × ((size t.old ≤ 128) × (length gone.now ≡ 256)) }
+    requires { IsTree t.old × (length gone.now ≡ 256) }
     ensures { t.new ≡ laid (kept (stays gone.now) (read t.old)) t.old }
 {
     let n = len(t);
@@ -45,21 +39,15 @@ pub fn remove_marked(t: &mut [u8], gone: &[u8])
 
 // Whether the pair at the place i of `a` comes before the one at the place j of `b`: it is not past it, or there is none.
 fn comes_first(a: &[u8], b: &[u8], i: usize, j: usize) -> bool
-    requires { ((length a.now ≡ tree_length) × (size a.now ≤ 128)) × ((length b.now ≡ tree_length) × (size b.now ≤ 128)) }
+    requires { IsTree a.now × IsTree b.now }
     ensures { result ≡ (ltb i (size a.now) && (leb (size b.now) j || leb (subject_at a.now i) (subject_at b.now j))) }
 {
-    if len(a) <= i {
-        return false;
-    }
-    if len(b) <= j {
-        return true;
-    }
-    subject_at(a, i) <= subject_at(b, j)
+    i < len(a) && (len(b) <= j || subject_at(a, i) <= subject_at(b, j))
 }
 
 // `t` is `a`; the entries of `slots` join it, each on the subject that `b` has at its place.
 pub fn merge(t: &mut [u8], a: &[u8], b: &[u8], slots: &[u8])
-    requires { ((length t.old ≡ tree_length) × (t.old ≡ a.now)) × (((length b.now ≡ tree_length) × (size b.now ≤ 128)) × ((length slots.now ≡ 128) × (((size a.now + length (filled slots.now (read b.now))) ≤ 128) × ((in_order 0 (read a.now) ≡ true) × (in_order 0 (read b.now) ≡ true))))) }
+    requires { Mergeable t.old a.now b.now slots.now }
     ensures { t.new ≡ laid (merged (read a.now) (filled slots.now (read b.now))) t.old }
 {
     let end = len(a) + len(b);
@@ -74,11 +62,9 @@ pub fn merge(t: &mut [u8], a: &[u8], b: &[u8], slots: &[u8])
         } else {
             if slots[j] < 128 {
                 write_place(t, w, slots[j], subject_at(b, j));
-                j += 1;
                 w += 1;
-            } else {
-                j += 1;
             }
+            j += 1;
         }
     }
     t[0] = w as u8;

@@ -3,7 +3,7 @@ use Prim.Native.Nat.{ℕ, zero, suc, ◌+◌, ◌<◌, ◌≤◌}
 use mathlib.Core.Path.{◌≡◌, refl, sym, ap, ◌∙◌}
 use mathlib.Core.Logic.{◌≢◌}
 use mathlib.Core.List.{List, [], ◌∷◌}
-use mathlib.Core.Bool.{Bool, true, false, cond, ◌&&◌}
+use mathlib.Core.Bool.{Bool, true, false, ◌&&◌}
 use native.Mathlib.Omega.{arith}
 use native.Mathlib.Nat.{not-suc-le-zero}
 use lib.ListN.{length, get_or}
@@ -12,8 +12,8 @@ use borrow.Author.Tests.{le-leb, lt-leb, leb-true, leb-false, eqb-true, ne_eqb}
 use Rattle.state.specs.Seq.{to_nat}
 use Rattle.state.proofs.Tests.{and_l, and_r, and-true, by_cond}
 use Rattle.entry_tree.specs.Pairs.{Pair, count, is_entry, without, inserted, in_order, in_range}
-use Rattle.entry_tree.specs.Inner.{position, removed_at}
-use Rattle.entry_tree.proofs.Lists.{none}
+use Rattle.entry_tree.specs.Inner.{removed_at}
+use Rattle.entry_tree.proofs.Lists.{none, count_at}
 
 -- ---- subject order
 
@@ -163,16 +163,13 @@ module _ (e : ℕ) where
       (λ t. ap (λ (k : List Pair). q ∷ k) (without-none l (omega (arith, ap to_nat t))))
 
   -- an entry that stands once leaves its place
-  pub removed-without : (l : List Pair) → count (is_entry e) l ≤ 1 → position (is_entry e) l < length l → removed_at (position (is_entry e) l) l ≡ without e l
-  removed-without [] a b = refl
-  removed-without (q ∷ l) a b = cases (is_entry e q) a b (removed-without l) (without-none l)
-    where
-      cases : (t : Bool) → to_nat t + count (is_entry e) l ≤ 1 → cond t 0 (suc (position (is_entry e) l)) < suc (length l)
-          → (count (is_entry e) l ≤ 1 → position (is_entry e) l < length l → removed_at (position (is_entry e) l) l ≡ without e l)
-          → (count (is_entry e) l ≡ 0 → without e l ≡ l)
-          → removed_at (cond t 0 (suc (position (is_entry e) l))) (q ∷ l) ≡ cond t (without e l) (q ∷ without e l)
-      cases true a b f g = sym (g (omega arith))
-      cases false a b f g = ap (λ (k : List Pair). q ∷ k) (f (omega arith) (omega arith))
+  pub removed-without : (l : List Pair) (i : ℕ) → i < length l → is_entry e (get_or l i none) ≡ true → count (is_entry e) l ≤ 1 → removed_at i l ≡ without e l
+  removed-without [] i h q u = absurd (not-suc-le-zero h)
+  removed-without (p ∷ l) zero h q u = by-entry (λ k. l ≡ k) p l (λ t. sym (without-none l (omega (arith, ap to_nat t)))) (λ t. absurd (omega (arith, ap to_nat q, ap to_nat t)))
+  removed-without (p ∷ l) (suc i) h q u =
+      by-entry (λ k. p ∷ removed_at i l ≡ k) p l
+      (λ t. absurd (omega (arith, ap to_nat t, count_at (is_entry e) l i (omega arith) q)))
+      (λ t. ap (λ (k : List Pair). p ∷ k) (removed-without l i (omega arith) q (omega arith)))
 
 -- ---- the pair i leaves
 

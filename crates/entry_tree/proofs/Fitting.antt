@@ -12,10 +12,14 @@ use Rattle.state.specs.Seq.{all_b}
 use Rattle.state.proofs.Tests.{and_l, and_r, and-true, same_test}
 use Rattle.entry_tree.specs.Pairs.{Pair, count, is_entry, has_entry, in_range, once_b}
 use Rattle.entry_tree.specs.Testing.{mark_of, pairs_b, seen_after, Passed, order_b, gaps_b, pairs_fit_b, Fit}
+use Rattle.entry_tree.specs.declared.whole.Check.{Check}
 use Rattle.entry_tree.proofs.Passing.{pass_of, of_pass, after_in, after-out}
 use Rattle.entry_tree.proofs.Once.{once_of, of_once}
 
-module _ (most same : ℕ) where
+module _ (most : ℕ) (same : Bool) where
+  abbrev alone : Check
+  alone = record { most = most; same = same; low = 0; high = 0; met = 3 }
+
   zeros : List ℕ
   zeros = replicate 256 0
 
@@ -31,16 +35,16 @@ module _ (most same : ℕ) where
   unfolding zeros
   zero-long = length-replicate {A = ℕ} 256 0
 
-  fit-test : (l : List Pair) → pairs_b most same 0 0 3 zeros 0 l ≡ pairs_fit_b most same l
+  fit-test : (l : List Pair) → pairs_b alone zeros 0 l ≡ pairs_fit_b most same l
   unfolding pairs_fit_b
-  fit-test l = same_test (pairs_b most same 0 0 3 zeros 0 l) (in_range most l && (all_b 128 (once_b l) && order_b same 0 l))
-      (λ h. let w = pass_of most same 0 0 3 (omega arith) zeros 0 l zero-long h in
+  fit-test l = same_test (pairs_b alone zeros 0 l) (in_range most l && (all_b 128 (once_b l) && order_b same 0 l))
+      (λ h. let w = pass_of alone (omega arith) zeros 0 l zero-long h in
       and-true (in_range most l) (all_b 128 (once_b l) && order_b same 0 l) w.range
       (and-true (all_b 128 (once_b l)) (order_b same 0 l) (of_once l w.once) w.order))
       (λ h.
       let rest = and_r (in_range most l) (all_b 128 (once_b l) && order_b same 0 l) h in
       let range = and_l (in_range most l) (all_b 128 (once_b l) && order_b same 0 l) h in
-      of_pass most same 0 0 3 (omega arith) zeros 0 l zero-long (record {
+      of_pass alone (omega arith) zeros 0 l zero-long (record {
         range = range;
         order = and_r (all_b 128 (once_b l)) (order_b same 0 l) rest;
         once = once_of most l range (and_l (all_b 128 (once_b l)) (order_b same 0 l) rest);
@@ -54,10 +58,10 @@ module _ (most same : ℕ) where
     | no z ↦ rw (eq-eqb (mark_of (seen_after 3 zeros l) e) 3 (after_in most 3 zeros l e zero-long h (omega arith)), lt-ltb 0 (count (is_entry e) l) (omega arith)) refl
   ]
 
-  pub fit : (seen₀ seen : List ℕ) (l : List Pair) (r : Bool) → seen₀ ≡ replicate 256 0 → Passed most same 0 0 3 seen₀ seen l r → Fit most same seen l r
+  pub fit : (seen₀ seen : List ℕ) (l : List Pair) (r : Bool) → seen₀ ≡ replicate 256 0 → Passed alone seen₀ seen l r → Fit most same seen l r
   unfolding zeros pairs_fit_b
   fit seen₀ seen l r z w =
-      let q : r ≡ pairs_fit_b most same l = w.test ∙ ap (λ (s : List ℕ). pairs_b most same 0 0 3 s 0 l) z ∙ fit-test l in
+      let q : r ≡ pairs_fit_b most same l = w.test ∙ ap (λ (s : List ℕ). pairs_b alone s 0 l) z ∙ fit-test l in
       record {
         test = q;
         marks = λ h e. ap (λ (s : List ℕ). eqb (mark_of s e) 3) (w.marks h ∙ ap (λ (s : List ℕ). seen_after 3 s l) z) ∙ fit-marks l (and_l (in_range most l) (all_b 128 (once_b l) && order_b same 0 l) (sym q ∙ h)) e;

@@ -1,16 +1,19 @@
 -- Laws of lists of pairs: the first pair that passes a test, and the place of an entry.
-use Prim.Native.Nat.{ℕ, zero, suc, ◌+◌, ◌-◌, ◌<◌, ◌≤◌, zero-le}
-use mathlib.Core.Path.{◌≡◌, refl, sym, ap, ◌∙◌, subst}
+use Prim.Native.Nat.{ℕ, zero, suc, ◌+◌, ◌-◌, ◌<◌, ◌≤◌}
+use mathlib.Core.Path.{◌≡◌, refl, sym, ap, ◌∙◌}
 use mathlib.Core.List.{List, [], ◌∷◌}
-use mathlib.Core.Bool.{Bool, true, false, cond}
+use mathlib.Core.Bool.{Bool, true, false, cond, not}
 use native.Mathlib.Omega.{arith}
 use native.Mathlib.Nat.{not-suc-le-zero}
 use lib.ListN.{length, get_or, drop}
 use lib.Dec.{ltb, leb-suc-suc}
 use borrow.Author.Tests.{lt-ltb}
+use Rattle.std.specs.Prelude.{Option, Some, None, is_some, position}
+use Rattle.std.specs.List.{position_or_len}
+use Rattle.std.proofs.lemmas.List.Sums.{position_or_len_is}
+use Rattle.std.proofs.lemmas.List.Quantifiers.{position-Some}
 use Rattle.state.specs.Seq.{to_nat}
 use Rattle.entry_tree.specs.Pairs.{Pair, pair, count, any, is_entry, Place, find, place_of, past}
-use Rattle.entry_tree.specs.Inner.{position}
 
 -- what stands past the end of a list
 abbrev pub none : Pair
@@ -18,51 +21,72 @@ none = pair 0 0
 
 -- ---- the first pair that passes a test
 
+-- it is at the place i
+pub record First (test : Pair → Bool) (l : List Pair) (i : ℕ) : Type 0 where
+  pub within : i < length l
+  pub here : test (get_or l i none) ≡ true
+  pub before : (k : ℕ) → k < i → test (get_or l k none) ≡ false
+
 module _ (test : Pair → Bool) where
-  pub position-le : (l : List Pair) → position test l ≤ length l
-  position-le [] = zero-le
-  position-le (p ∷ l) = cases (test p) (position-le l)
-    where
-      cases : (b : Bool) → position test l ≤ length l → cond b 0 (suc (position test l)) ≤ suc (length l)
-      cases true h = zero-le
-      cases false h = omega arith
+  pub first_of : (l : List Pair) (i : ℕ) → position test l ≡ Some i → First test l i
+  first_of l i q = let p = position-Some test l i none q in record { within = p.0; here = p.1; before = p.2 }
 
-  pub any-position : (l : List Pair) → any test l ≡ ltb (position test l) (length l)
-  any-position [] = refl
-  any-position (p ∷ l) = cases (test p) (any-position l)
+  pub position-first : (l : List Pair) (i : ℕ) → First test l i → position test l ≡ Some i
+  position-first l i f = rw (position_or_len_is test l i none (omega (arith, f.within)) f.before (λ h. f.here), lt-ltb i (length l) f.within)
+
+  pub count_at : (l : List Pair) (i : ℕ) → i < length l → test (get_or l i none) ≡ true → 0 < count test l
+  count_at [] i h q = absurd (not-suc-le-zero h)
+  count_at (p ∷ l) zero h q = rw q (omega arith)
+  count_at (p ∷ l) (suc i) h q = omega (arith, count_at l i (omega arith) q)
+
+  -- a pair that alone passes
+  pub first-alone : (l : List Pair) (i : ℕ) → i < length l → test (get_or l i none) ≡ true → count test l ≤ 1 → First test l i
+  first-alone [] i h q u = absurd (not-suc-le-zero h)
+  first-alone (p ∷ l) zero h q u = record { within = h; here = q; before = λ k g. absurd (not-suc-le-zero g) }
+  first-alone (p ∷ l) (suc i) h q u =
+      let f = first-alone l i (omega arith) q (omega arith) in
+      record { within = h; here = q; before = before f }
     where
-      cases : (b : Bool) → any test l ≡ ltb (position test l) (length l) → ltb 0 (to_nat b + count test l) ≡ ltb (cond b 0 (suc (position test l))) (suc (length l))
+      before : First test l i → (k : ℕ) → k < suc i → test (get_or (p ∷ l) k none) ≡ false
+      before f zero g = others (test p) u (count_at l i (omega arith) q)
+        where
+          others : (b : Bool) → to_nat b + count test l ≤ 1 → 0 < count test l → b ≡ false
+          others true a c = absurd (omega arith)
+          others false a c = refl
+      before f (suc k) g = f.before k (omega arith)
+
+  has_first : (l : List Pair) → any test l ≡ ltb (position_or_len test l) (length l)
+  has_first [] = refl
+  has_first (p ∷ l) = cases (test p) (has_first l)
+    where
+      cases : (b : Bool) → any test l ≡ ltb (position_or_len test l) (length l) → ltb 0 (to_nat b + count test l) ≡ ltb (cond (not b) (1 + position_or_len test l) 0) (suc (length l))
       cases true h = lt-ltb 0 (1 + count test l) (omega arith) ∙ sym (lt-ltb 0 (suc (length l)) (omega arith))
-      cases false h = (let z : 0 + count test l ≡ count test l = omega arith in ap (ltb 0) z) ∙ h ∙ sym (leb-suc-suc (suc (position test l)) (length l))
+      cases false h =
+          let a : 0 + count test l ≡ count test l = omega arith in
+          let b : 1 + position_or_len test l ≡ suc (position_or_len test l) = omega arith in
+          ap (ltb 0) a ∙ h ∙ sym (ap (λ (n : ℕ). ltb n (suc (length l))) b ∙ leb-suc-suc (suc (position_or_len test l)) (length l))
 
-  -- it passes the test, and none before it does
-  pub position-true : (l : List Pair) → position test l < length l → test (get_or l (position test l) none) ≡ true
-  position-true [] h = absurd (not-suc-le-zero h)
-  position-true (p ∷ l) h = cases (test p) refl (position-true l) h
+  pub any-position : (l : List Pair) → is_some (position test l) ≡ any test l
+  any-position l = placed (ltb (position_or_len test l) (length l)) ∙ sym (has_first l)
     where
-      cases : (b : Bool) → test p ≡ b → (position test l < length l → test (get_or l (position test l) none) ≡ true) → cond b 0 (suc (position test l)) < suc (length l)
-          → test (get_or (p ∷ l) (cond b 0 (suc (position test l))) none) ≡ true
-      cases true q r h = q
-      cases false q r h = r (omega arith)
+      placed : (b : Bool) → is_some (cond b (Some (position_or_len test l)) None) ≡ b
+      placed true = refl
+      placed false = refl
 
-  pub position-before : (l : List Pair) (k : ℕ) → k < position test l → test (get_or l k none) ≡ false
-  position-before [] k h = absurd (not-suc-le-zero h)
-  position-before (p ∷ l) k h = cases (test p) refl k h (position-before l)
-    where
-      cases : (b : Bool) → test p ≡ b → (k : ℕ) → k < cond b 0 (suc (position test l)) → ((k : ℕ) → k < position test l → test (get_or l k none) ≡ false) → test (get_or (p ∷ l) k none) ≡ false
-      cases true q k h r = absurd (not-suc-le-zero h)
-      cases false q zero h r = q
-      cases false q (suc k) h r = r k (omega arith)
+  -- where one passes, there is a place
+  pub placed : (l : List Pair) (o : Option ℕ) → o ≡ position test l → any test l ≡ true → is_some o ≡ true
+  placed l o q h = ap is_some q ∙ any-position l ∙ h
 
-  pub position_at : (l : List Pair) (i : ℕ) → i < length l → ((k : ℕ) → k < i → test (get_or l k none) ≡ false) → test (get_or l i none) ≡ true → position test l ≡ i
-  position_at [] i h f q = absurd (not-suc-le-zero h)
-  position_at (p ∷ l) zero h f q = ap (λ (b : Bool). cond b 0 (suc (position test l))) q
-  position_at (p ∷ l) (suc i) h f q =
-      ap (λ (b : Bool). cond b 0 (suc (position test l))) (f 0 (omega arith)) ∙ ap suc (position_at l i (omega arith) (λ k g. f (suc k) (omega arith)) q)
+  pub has-placed : (l : List Pair) (i : ℕ) → position test l ≡ Some i → any test l ≡ true
+  has-placed l i q = sym (any-position l) ∙ ap is_some q
 
-  pub position-none : (l : List Pair) → ((k : ℕ) → k < length l → test (get_or l k none) ≡ false) → position test l ≡ length l
-  position-none [] f = refl
-  position-none (p ∷ l) f = ap (λ (b : Bool). cond b 0 (suc (position test l))) (f 0 (omega arith)) ∙ ap suc (position-none l (λ k g. f (suc k) (omega arith)))
+  -- the code's answer is no place
+  pub nowhere : (l : List Pair) (o : Option ℕ) → o ≡ position test l → ((i : ℕ) → o ≡ Some i → ⊥) → position test l ≡ None
+  nowhere l None q n = sym q
+  nowhere l (Some i) q n = absurd (n i refl)
+
+  pub not-placed : (l : List Pair) → position test l ≡ None → any test l ≡ false
+  not-placed l q = sym (any-position l) ∙ ap is_some q
 
 -- ---- the place of an entry
 
@@ -80,20 +104,16 @@ from_more : (x : ℕ) (p : Pair) (i : ℕ) (l : List Pair) → from_at (suc p.su
 from_more x p zero l = refl
 from_more x p (suc i) l = refl
 
-find_at : (e from : ℕ) (l : List Pair) → position (is_entry e) l < length l → At from (position (is_entry e) l) l (find e from l)
-find_at e from [] h = absurd (not-suc-le-zero h)
-find_at e from (p ∷ l) h = cases (is_entry e p) (find_at e (suc p.subject) l) h
-  where
-    cases : (b : Bool) → (position (is_entry e) l < length l → At (suc p.subject) (position (is_entry e) l) l (find e (suc p.subject) l)) → cond b 0 (suc (position (is_entry e) l)) < suc (length l)
-        → At from (cond b 0 (suc (position (is_entry e) l))) (p ∷ l) (cond b (record { from = from; subject = p.subject; rest = l }) (find e (suc p.subject) l))
-    cases true r h = record { from_at_lem = refl; subject-at = refl; rest_at = refl }
-    cases false r h =
-        let a = r (omega arith) in
-        record { from_at_lem = a.from_at_lem ∙ from_more from p (position (is_entry e) l) l; subject-at = a.subject-at; rest_at = a.rest_at }
+find_at : (e from : ℕ) (l : List Pair) (i : ℕ) → First (is_entry e) l i → At from i l (find e from l)
+find_at e from [] i f = absurd (not-suc-le-zero f.within)
+find_at e from (p ∷ l) zero f = rw f.here (record { from_at_lem = refl; subject-at = refl; rest_at = refl })
+find_at e from (p ∷ l) (suc i) f =
+    let a = find_at e (suc p.subject) l i (record { within = omega (arith, f.within); here = f.here; before = λ k h. f.before (suc k) (omega arith) }) in
+    rw (f.before 0 (omega arith)) (record { from_at_lem = a.from_at_lem ∙ from_more from p i l; subject-at = a.subject-at; rest_at = a.rest_at })
 
-module _ (e : ℕ) (l : List Pair) (i : ℕ) (q : position (is_entry e) l ≡ i) (h : i < length l) where
+module _ (e : ℕ) (l : List Pair) (i : ℕ) (q : position (is_entry e) l ≡ Some i) where
   at : At 0 i l (place_of e l)
-  at = subst (λ (j : ℕ). At 0 j l (place_of e l)) q (find_at e 0 l (omega arith))
+  at = find_at e 0 l i (first_of (is_entry e) l i q)
 
   pub place-subject : (place_of e l).subject ≡ (get_or l i none).subject
   place-subject = at.subject-at

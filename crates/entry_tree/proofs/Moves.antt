@@ -1,16 +1,21 @@
--- What the loops of the changes keep, and that the changed bytes are those of the changed list.
+-- Where a pair belongs, and that the changed bytes are those of the changed list.
 use Prim.Native.Nat.{ℕ, suc, ◌+◌, ◌-◌, ◌*◌, ◌<◌, ◌≤◌}
-use mathlib.Core.Path.{◌≡◌, refl, sym, ap, ◌∙◌, subst}
-use mathlib.Core.List.{List}
-use mathlib.Core.Bool.{true}
+use mathlib.Core.Path.{◌≡◌, sym, ap, ◌∙◌}
+use mathlib.Core.List.{List, [], map}
+use mathlib.Core.Bool.{true, false}
 use native.Mathlib.Omega.{arith}
 use native.Mathlib.Decide.{ℕ_discrete, dec_lt}
+use lib.Dec.{leb}
 use lib.ListN.{length, get_or, set, length-set}
-use lib.Seq.{get_or-set_same, get_or-set_other}
+use lib.Seq.{get_or-set_same}
+use borrow.Author.Tests.{leb-true, leb-false, le-leb}
+use Rattle.std.specs.List.{CopiedTo, SameBelow, SameFrom}
+use Rattle.std.specs.List.Sorted.{IsPartitionedBy, IsPartitionPoint}
+use Rattle.std.proofs.lemmas.List.{get_or-map}
 use Rattle.state.specs.Result.{Bytes}
 use Rattle.entry_tree.specs.Pairs.{Pair, pair, inserted, in_order}
 use Rattle.entry_tree.specs.Places.{size, subject_at, read, laid}
-use Rattle.entry_tree.specs.Inner.{tree_length, cell_at, cell_of, set_cell, Between, RoomMade, ClosedUp, removed_at}
+use Rattle.entry_tree.specs.Inner.{tree_length, IsUpperBound, pair_of, cell_at, cell_of, set_cell, removed_at}
 use Rattle.entry_tree.proofs.Lists.{none}
 use Rattle.entry_tree.proofs.Reading.{read_length, read_at}
 use Rattle.entry_tree.proofs.Changes.{order-at, inserted-length, inserted-at, Joined, removed-length, removed-before, removed-after}
@@ -21,83 +26,84 @@ use Rattle.entry_tree.proofs.Laid.{has_one, laid-has, freed, cell_pair}
 at_read : (t : List ℕ) → Bytes t → (i : ℕ) → i < size t → (p : Pair) → p ≡ get_or (read t) i none → cell_at t i ≡ cell_of p
 at_read t y i h p q = cell_pair t y i ∙ ap cell_of (sym (read_at t i h) ∙ sym q)
 
--- ---- where a pair belongs
+read-subject : (t : List ℕ) (i : ℕ) → i < size t → (get_or (read t) i none).subject ≡ subject_at t i
+read-subject t i h = ap (λ (p : Pair). p.subject) (read_at t i h)
 
-module _ (t : List ℕ) (x : ℕ) where
-  pub between_all : (n : ℕ) → n ≡ size t → Between t x 0 n
-  between_all n q = record { order = omega arith; most = omega arith; below = λ h. absurd (omega arith); above = λ h. absurd (omega arith) }
+-- ---- where a pair on the subject x belongs: the places as the code cuts them are parted there
 
-  module _ (low high : ℕ) (h : Between t x low high) (mid : ℕ) (a : low ≤ mid) (b : mid < high) (s : ℕ) (q : s ≡ subject_at t mid) where
-    pub between_up : s ≤ x → Between t x (mid + 1) high
-    between_up g =
-        let z : mid + 1 - 1 ≡ mid = omega arith in
-        record { order = omega arith; most = h.most; below = λ p. subst (λ (k : ℕ). subject_at t k ≤ x) (sym z) (omega arith); above = h.above }
+module _ (t : List ℕ) (x : ℕ) (places : List (List ℕ)) (q : read t ≡ map pair_of places) (long : length places ≡ size t) where
+  subject-of : (k : ℕ) (d : List ℕ) → k < size t → (get_or (read t) k none).subject ≡ (pair_of (get_or places k d)).subject
+  subject-of k d h = ap (λ (p : Pair). p.subject) (ap (λ (l : List Pair). get_or l k none) q ∙ get_or-map pair_of places k d none (omega arith))
 
-    pub between_down : x < s → Between t x low mid
-    between_down g = record { order = a; most = omega (arith, h.most); below = h.below; above = λ p. omega arith }
+  pub parted : in_order 0 (read t) ≡ true → IsPartitionedBy (λ b. leb (pair_of b).subject x) places
+  parted order i j d h b p =
+      le-leb (pair_of (get_or places i d)).subject x (omega (
+        arith,
+        leb-true (pair_of (get_or places j d)).subject x p,
+        subject-of i d (omega arith),
+        subject-of j d (omega arith),
+        order-at 0 (read t) order i j h (omega (arith, read_length t)),
+      ))
 
--- ---- making room
+  pub bound-at : (i : ℕ) → i ≤ length places → IsPartitionPoint (λ b. leb (pair_of b).subject x ≡ true) (λ b. leb (pair_of b).subject x ≡ false) places i → IsUpperBound t x i
+  bound-at i m h =
+      record {
+        most = omega arith;
+        below = λ k b. omega (arith, leb-true (pair_of (get_or places k [])).subject x (h.0 k [] (omega arith) b), subject-of k [] (omega arith), read-subject t k (omega arith));
+        above = λ k a b. omega (arith, leb-false (pair_of (get_or places k [])).subject x (h.1 k [] a (omega arith)), subject-of k [] b, read-subject t k b);
+      }
 
-pub room-none : (t : List ℕ) (e : ℕ) → RoomMade t t e e
-room-none t e = record { len = refl; before = λ j h. refl; moved = λ j h g. absurd (omega arith); after = λ j h. refl }
+-- ---- n places from `from` on are copied to `to` on
 
-pub room-more : (t u : List ℕ) (m e : ℕ) → RoomMade t u m e → (k : ℕ) → k + 1 ≡ m → m ≤ e → e + 3 ≤ length t → RoomMade t (set u (k + 3) (get_or u k 0)) k e
-room-more t u m e h k q b f =
-    let v = get_or u k 0 in
+pub record Copied (t u : List ℕ) (from to n : ℕ) : Type 0 where
+  pub len : length u ≡ length t
+  pub moved : (i : ℕ) → i < n → cell_at u (to + i) ≡ cell_at t (from + i)
+  pub before : (i : ℕ) → i < to → cell_at u i ≡ cell_at t i
+  pub after : (i : ℕ) → to + n ≤ i → cell_at u i ≡ cell_at t i
+
+-- as their bytes are
+pub copied : (t u : List ℕ) (from to n : ℕ) → length u ≡ length t → (a b m : ℕ) → a ≡ 1 + 3 * from → b ≡ 1 + 3 * to → m ≡ 3 * n → CopiedTo t u a b m × SameBelow t u b × SameFrom t u (b + m)
+    → Copied t u from to n
+copied t u from to n l a b m qa qb qm h =
+    let moves : (j i : ℕ) → j < 3 * n → i ≡ 1 + 3 * to + j → (k : ℕ) → k ≡ 1 + 3 * from + j → get_or u i 0 ≡ get_or t k 0 = λ j i c qi k qk.
+    h.0 i 0 (omega arith) (omega arith) ∙ ap (λ (z : ℕ). get_or t z 0) (omega arith) in
     record {
-      len = length-set u (k + 3) v ∙ h.len;
-      before = λ j a. get_or-set_other u (k + 3) j v 0 (omega arith) ∙ h.before j (omega arith);
-      moved = λ j a c.
-          elim (ℕ_discrete j k) [
-            | yes z ↦ subst (λ (j : ℕ). get_or (set u (k + 3) v) (j + 3) 0 ≡ get_or t j 0) (sym z) (get_or-set_same u (k + 3) v 0 (omega (arith, h.len)) ∙ h.before k (omega arith))
-            | no z ↦ get_or-set_other u (k + 3) (j + 3) v 0 (omega arith) ∙ h.moved j (omega arith) c
-          ];
-      after = λ j a. get_or-set_other u (k + 3) j v 0 (omega arith) ∙ h.after j a;
+      len = l;
+      moved = λ i c.
+          cell_same (cell_at u (to + i)) (cell_at t (from + i))
+          (moves (3 * i) (1 + 3 * (to + i)) (omega arith) (omega arith) (1 + 3 * (from + i)) (omega arith))
+          (moves (1 + 3 * i) (2 + 3 * (to + i)) (omega arith) (omega arith) (2 + 3 * (from + i)) (omega arith))
+          (moves (2 + 3 * i) (3 + 3 * (to + i)) (omega arith) (omega arith) (3 + 3 * (from + i)) (omega arith));
+      before = λ i c. cell_same (cell_at u i) (cell_at t i) (h.1 (1 + 3 * i) 0 (omega arith)) (h.1 (2 + 3 * i) 0 (omega arith)) (h.1 (3 + 3 * i) 0 (omega arith));
+      after = λ i c. cell_same (cell_at u i) (cell_at t i) (h.2 (1 + 3 * i) 0 (omega arith)) (h.2 (2 + 3 * i) 0 (omega arith)) (h.2 (3 + 3 * i) 0 (omega arith));
     }
 
-pub room_end : (t u : List ℕ) (k m : ℕ) → RoomMade t u k m → (i : ℕ) → k ≡ 1 + 3 * i → m ≡ 1 + 3 * size t → RoomMade t u (1 + 3 * i) (1 + 3 * size t)
-room_end t u k m h i p q = subst (λ (k : ℕ). RoomMade t u k (1 + 3 * size t)) p (subst (λ (m : ℕ). RoomMade t u k m) q h)
+-- the place i, which is that many past where they came to
+moved-at : (t u : List ℕ) (from to n : ℕ) → Copied t u from to n → (i j : ℕ) → to ≤ i → i < to + n → j ≡ from + (i - to) → cell_at u i ≡ cell_at t j
+moved-at t u from to n h i j a b q =
+    let z : i ≡ to + (i - to) = omega arith in
+    ap (cell_at u) z ∙ h.moved (i - to) (omega arith) ∙ ap (cell_at t) (sym q)
 
-module _ (t u : List ℕ) (r : ℕ) (h : RoomMade t u (1 + 3 * r) (1 + 3 * size t)) where
-  room-before : (k : ℕ) → k < r → cell_at u k ≡ cell_at t k
-  room-before k b = cell_same (cell_at u k) (cell_at t k) (h.before (1 + 3 * k) (omega arith)) (h.before (2 + 3 * k) (omega arith)) (h.before (3 + 3 * k) (omega arith))
-
-  room_moved : (k : ℕ) → r ≤ k → k < size t → cell_at u (suc k) ≡ cell_at t k
-  room_moved k a b =
-      let q1 : 1 + 3 * suc k ≡ 1 + 3 * k + 3 = omega arith in
-      let q2 : 2 + 3 * suc k ≡ 2 + 3 * k + 3 = omega arith in
-      let q3 : 3 + 3 * suc k ≡ 3 + 3 * k + 3 = omega arith in
-      cell_same (cell_at u (suc k)) (cell_at t k)
-      (ap (λ (j : ℕ). get_or u j 0) q1 ∙ h.moved (1 + 3 * k) (omega arith) (omega arith))
-      (ap (λ (j : ℕ). get_or u j 0) q2 ∙ h.moved (2 + 3 * k) (omega arith) (omega arith))
-      (ap (λ (j : ℕ). get_or u j 0) q3 ∙ h.moved (3 + 3 * k) (omega arith) (omega arith))
-
-  room_after : (k : ℕ) → size t < k → cell_at u k ≡ cell_at t k
-  room_after k b = cell_same (cell_at u k) (cell_at t k) (h.after (1 + 3 * k) (omega arith)) (h.after (2 + 3 * k) (omega arith)) (h.after (3 + 3 * k) (omega arith))
+-- ---- a pair joins
 
 module _ (t : List ℕ) (y : Bytes t) (len : length t ≡ tree_length) (few : size t < 128) (order : in_order 0 (read t) ≡ true)
-    (e x r : ℕ) (m : Between t x r r) (u : List ℕ) (h : RoomMade t u (1 + 3 * r) (1 + 3 * size t))
+    (e x r : ℕ) (m : IsUpperBound t x r) (u : List ℕ) (h : Copied t u r (suc r) (size t - r))
   where
     joined : Joined (pair e x) (read t) (inserted (pair e x) (read t)) r
     joined =
         inserted-at (pair e x) (read t) r (omega (arith, m.most, read_length t))
-        (λ i a.
-        let b : r - 1 < size t = omega (arith, m.most) in
-        let z : (get_or (read t) (r - 1) none).subject ≡ subject_at t (r - 1) = ap (λ (p : Pair). p.subject) (read_at t (r - 1) b) in
-        omega (arith, m.below (omega arith), order-at 0 (read t) order i (r - 1) (omega arith) (omega (arith, read_length t))))
-        (λ a.
-        let b : r < size t = omega (arith, read_length t) in
-        let z : (get_or (read t) r none).subject ≡ subject_at t r = ap (λ (p : Pair). p.subject) (read_at t r b) in
-        omega (arith, m.above b))
+        (λ i a. omega (arith, m.most, m.below i a, read-subject t i (omega (arith, m.most))))
+        (λ a. let b : r < size t = omega (arith, read_length t) in omega (arith, m.above r (omega arith) b, read-subject t r b))
 
-    pub room-laid : (n : ℕ) → n ≡ size t + 1 → (v : List ℕ) → v ≡ set_cell u r (cell_of (pair e x)) → set v 0 n ≡ laid (inserted (pair e x) (read t)) t
-    room-laid n nq v vq =
+    pub joined-laid : (n : ℕ) → n ≡ size t + 1 → (v : List ℕ) → v ≡ set_cell u r (cell_of (pair e x)) → set v 0 n ≡ laid (inserted (pair e x) (read t)) t
+    joined-laid n nq v vq =
         let p = pair e x in
         let k = inserted p (read t) in
         let c = cell_of p in
         let w = set_cell u r c in
         let lk : length k ≡ suc (size t) = inserted-length p (read t) ∙ ap suc (read_length t) in
         let lw : length w ≡ tree_length = set-length u r c ∙ h.len ∙ len in
+        let most : r ≤ size t = m.most in
         let g = joined in
         ap (λ (v : List ℕ). set v 0 n) vq
         ∙ has_one k t (set w 0 n) (laid k t)
@@ -107,66 +113,27 @@ module _ (t : List ℕ) (y : Bytes t) (len : length t ≡ tree_length) (few : si
           held = λ i a.
               number_cell w n i
               ∙ elim (dec_lt i r) [
-                | yes q ↦ set_other u r c i (omega arith) ∙ room-before t u r h i q ∙ at_read t y i (omega (arith, m.most)) (get_or k i none) (g.before i q)
+                | yes q ↦ set_other u r c i (omega arith) ∙ h.before i (omega arith) ∙ at_read t y i (omega arith) (get_or k i none) (g.before i q)
                 | no q ↦ elim (ℕ_discrete i r) [
-                  | yes z ↦ ap (cell_at w) z ∙ set_same u r c (h.len ∙ len) (omega (arith, m.most)) ∙ ap cell_of (sym g.here ∙ ap (λ (j : ℕ). get_or k j none) (sym z))
+                  | yes z ↦ ap (cell_at w) z ∙ set_same u r c (h.len ∙ len) (omega arith) ∙ ap cell_of (sym g.here ∙ ap (λ (j : ℕ). get_or k j none) (sym z))
                   | no z ↦
                       let j = i - 1 in
                       let s1 : i ≡ suc j = omega arith in
-                      let b : j < size t = omega arith in
                       set_other u r c i z
-                      ∙ ap (cell_at u) s1
-                      ∙ room_moved t u r h j (omega arith) b
-                      ∙ at_read t y j b (get_or k i none) (ap (λ (j : ℕ). get_or k j none) s1 ∙ g.after j (omega arith))
+                      ∙ moved-at t u r (suc r) (size t - r) h i j (omega arith) (omega arith) (omega arith)
+                      ∙ at_read t y j (omega arith) (get_or k i none) (ap (λ (j : ℕ). get_or k j none) s1 ∙ g.after j (omega arith))
                 ]
               ];
           left = λ i a b. absurd (omega arith);
-          rest = λ i a b. number_cell w n i ∙ set_other u r c i (omega (arith, m.most)) ∙ room_after t u r h i (omega arith);
+          rest = λ i a b. number_cell w n i ∙ set_other u r c i (omega arith) ∙ h.after i (omega arith);
         })
         (laid-has k t len (omega arith))
 
--- ---- closing up
+-- ---- the pair i leaves
 
-pub closed_none : (t : List ℕ) (a : ℕ) → ClosedUp t t a a
-closed_none t a = record { len = refl; before = λ j h. refl; moved = λ j h g. absurd (omega arith); after = λ j h. refl }
-
-pub closed-more : (t u : List ℕ) (a k : ℕ) → ClosedUp t u a k → a ≤ k → k < length t → ClosedUp t (set u k (get_or u (k + 3) 0)) a (k + 1)
-closed-more t u a k h b f =
-    let v = get_or u (k + 3) 0 in
-    record {
-      len = length-set u k v ∙ h.len;
-      before = λ j c. get_or-set_other u k j v 0 (omega arith) ∙ h.before j c;
-      moved = λ j c d.
-          elim (ℕ_discrete j k) [
-            | yes z ↦ subst (λ (j : ℕ). get_or (set u k v) j 0 ≡ get_or t (j + 3) 0) (sym z) (get_or-set_same u k v 0 (omega (arith, h.len)) ∙ h.after (k + 3) (omega arith))
-            | no z ↦ get_or-set_other u k j v 0 z ∙ h.moved j c (omega arith)
-          ];
-      after = λ j c. get_or-set_other u k j v 0 (omega arith) ∙ h.after j (omega arith);
-    }
-
-pub closed_end : (t u : List ℕ) (a k : ℕ) → ClosedUp t u a k → (e : ℕ) → k ≡ e → ClosedUp t u a e
-closed_end t u a k h e q = subst (λ (k : ℕ). ClosedUp t u a k) q h
-
-module _ (t u : List ℕ) (i n : ℕ) (h : ClosedUp t u (1 + 3 * i) (3 * n - 2)) where
-  closed-before : (k : ℕ) → k < i → cell_at u k ≡ cell_at t k
-  closed-before k b = cell_same (cell_at u k) (cell_at t k) (h.before (1 + 3 * k) (omega arith)) (h.before (2 + 3 * k) (omega arith)) (h.before (3 + 3 * k) (omega arith))
-
-  closed-moved : (k : ℕ) → i ≤ k → suc k < n → cell_at u k ≡ cell_at t (suc k)
-  closed-moved k a b =
-      let q1 : 1 + 3 * k + 3 ≡ 1 + 3 * suc k = omega arith in
-      let q2 : 2 + 3 * k + 3 ≡ 2 + 3 * suc k = omega arith in
-      let q3 : 3 + 3 * k + 3 ≡ 3 + 3 * suc k = omega arith in
-      cell_same (cell_at u k) (cell_at t (suc k))
-      (h.moved (1 + 3 * k) (omega arith) (omega arith) ∙ ap (λ (j : ℕ). get_or t j 0) q1)
-      (h.moved (2 + 3 * k) (omega arith) (omega arith) ∙ ap (λ (j : ℕ). get_or t j 0) q2)
-      (h.moved (3 + 3 * k) (omega arith) (omega arith) ∙ ap (λ (j : ℕ). get_or t j 0) q3)
-
-  closed_after : (k : ℕ) → n ≤ suc k → cell_at u k ≡ cell_at t k
-  closed_after k b = cell_same (cell_at u k) (cell_at t k) (h.after (1 + 3 * k) (omega arith)) (h.after (2 + 3 * k) (omega arith)) (h.after (3 + 3 * k) (omega arith))
-
-pub closed-laid : (t : List ℕ) → Bytes t → length t ≡ tree_length → size t ≤ 128 → (i : ℕ) → i < size t → (n : ℕ) → n ≡ size t - 1 → (u : List ℕ) → ClosedUp t u (1 + 3 * i) (3 * size t - 2) → (v : List ℕ) → v ≡ set_cell u n freed
-    → set v 0 n ≡ laid (removed_at i (read t)) t
-closed-laid t y len few i hi n nq u h v vq =
+pub left-laid : (t : List ℕ) → Bytes t → length t ≡ tree_length → size t ≤ 128 → (i : ℕ) → i < size t → (n : ℕ) → n ≡ size t - 1 → (u : List ℕ) → Copied t u (suc i) i (n - i)
+    → (v : List ℕ) → v ≡ set_cell u n freed → set v 0 n ≡ laid (removed_at i (read t)) t
+left-laid t y len few i hi n nq u h v vq =
     let k = removed_at i (read t) in
     let w = set_cell u n freed in
     let lk : suc (length k) ≡ size t = removed-length i (read t) (omega (arith, read_length t)) ∙ read_length t in
@@ -180,12 +147,14 @@ closed-laid t y len few i hi n nq u h v vq =
           number_cell w n j
           ∙ set_other u n freed j (omega arith)
           ∙ elim (dec_lt j i) [
-            | yes q ↦ closed-before t u i (size t) h j q ∙ at_read t y j (omega arith) (get_or k j none) (removed-before i (read t) j q)
-            | no q ↦ closed-moved t u i (size t) h j (omega arith) (omega arith) ∙ at_read t y (suc j) (omega arith) (get_or k j none) (removed-after i (read t) j (omega arith))
+            | yes q ↦ h.before j q ∙ at_read t y j (omega arith) (get_or k j none) (removed-before i (read t) j q)
+            | no q ↦
+                moved-at t u (suc i) i (n - i) h j (suc j) (omega arith) (omega arith) (omega arith)
+                ∙ at_read t y (suc j) (omega arith) (get_or k j none) (removed-after i (read t) j (omega arith))
           ];
       left = λ j a b.
           let z : j ≡ n = omega arith in
           number_cell w n j ∙ ap (cell_at w) z ∙ set_same u n freed (h.len ∙ len) (omega arith);
-      rest = λ j a b. number_cell w n j ∙ set_other u n freed j (omega arith) ∙ closed_after t u i (size t) h j (omega arith);
+      rest = λ j a b. number_cell w n j ∙ set_other u n freed j (omega arith) ∙ h.after j (omega arith);
     })
     (laid-has k t len (omega arith))

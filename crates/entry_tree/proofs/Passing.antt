@@ -3,16 +3,18 @@ use Prim.Native.Nat.{ℕ, suc, ◌+◌, ◌-◌, ◌<◌, ◌≤◌}
 use mathlib.Core.Path.{◌≡◌, refl, sym, ap, ◌∙◌}
 use mathlib.Core.Logic.{◌≢◌}
 use mathlib.Core.List.{List, [], ◌∷◌}
-use mathlib.Core.Bool.{Bool, true, ◌&&◌}
+use mathlib.Core.Bool.{Bool, true, false, ◌&&◌}
 use native.Mathlib.Omega.{arith}
 use native.Mathlib.Decide.{ℕ_discrete}
 use lib.Dec.{leb}
 use lib.ListN.{length, length-set}
 use lib.Seq.{get_or-set_same, get_or-set_other}
 use borrow.Author.Tests.{leb-true, eq-eqb, ne_eqb, le-leb}
+use Rattle.state.specs.Seq.{to_nat}
 use Rattle.state.proofs.Tests.{and_l, and_r, and-true, same_test}
 use Rattle.entry_tree.specs.Pairs.{Pair, count, is_entry, in_range, in_order, rising}
 use Rattle.entry_tree.specs.Testing.{mark_of, gap_b, pair_b, meets, pairs_b, seen_after, order_b, gaps_b}
+use Rattle.entry_tree.specs.declared.whole.Check.{Check}
 use Rattle.entry_tree.proofs.Changes.{range-parts, range_cons}
 
 -- ---- counts of entries
@@ -31,47 +33,47 @@ range_inside most (p ∷ l) h e i =
 
 -- ---- a pair's test
 
-pub record Fits (most same low high : ℕ) (seen : List ℕ) (from : ℕ) (p : Pair) : Type 0 where
+pub record Fits (c : Check) (seen : List ℕ) (from : ℕ) (p : Pair) : Type 0 where
   pub entry : p.entry ≤ 127
-  pub subject : p.subject ≤ most
-  pub order : from ≤ p.subject + same
-  pub least : low ≤ mark_of seen p.entry
-  pub most-mark : mark_of seen p.entry ≤ high
+  pub subject : p.subject ≤ c.most
+  pub order : from ≤ p.subject + to_nat c.same
+  pub least : c.low ≤ mark_of seen p.entry
+  pub most-mark : mark_of seen p.entry ≤ c.high
   pub gap : gap_b seen from p ≡ true
 
-module _ (most same low high from : ℕ) (seen : List ℕ) (p : Pair) where
+module _ (c : Check) (from : ℕ) (seen : List ℕ) (p : Pair) where
   abbrev m : ℕ
   m = mark_of seen p.entry
 
   abbrev r5 : Bool
-  r5 = leb m high && gap_b seen from p
+  r5 = leb m c.high && gap_b seen from p
 
   abbrev r4 : Bool
-  r4 = leb low m && r5
+  r4 = leb c.low m && r5
 
   abbrev r3 : Bool
-  r3 = leb from (p.subject + same) && r4
+  r3 = leb from (p.subject + to_nat c.same) && r4
 
   abbrev r2 : Bool
-  r2 = leb p.subject most && r3
+  r2 = leb p.subject c.most && r3
 
-  pub fits_of : pair_b most same low high seen from p ≡ true → Fits most same low high seen from p
+  pub fits_of : pair_b c seen from p ≡ true → Fits c seen from p
   fits_of h =
       let h2 = and_r (leb p.entry 127) r2 h in
-      let h3 = and_r (leb p.subject most) r3 h2 in
-      let h4 = and_r (leb from (p.subject + same)) r4 h3 in
-      let h5 = and_r (leb low m) r5 h4 in
+      let h3 = and_r (leb p.subject c.most) r3 h2 in
+      let h4 = and_r (leb from (p.subject + to_nat c.same)) r4 h3 in
+      let h5 = and_r (leb c.low m) r5 h4 in
       record {
         entry = leb-true p.entry 127 (and_l (leb p.entry 127) r2 h);
-        subject = leb-true p.subject most (and_l (leb p.subject most) r3 h2);
-        order = leb-true from (p.subject + same) (and_l (leb from (p.subject + same)) r4 h3);
-        least = leb-true low m (and_l (leb low m) r5 h4);
-        most-mark = leb-true m high (and_l (leb m high) (gap_b seen from p) h5);
-        gap = and_r (leb m high) (gap_b seen from p) h5;
+        subject = leb-true p.subject c.most (and_l (leb p.subject c.most) r3 h2);
+        order = leb-true from (p.subject + to_nat c.same) (and_l (leb from (p.subject + to_nat c.same)) r4 h3);
+        least = leb-true c.low m (and_l (leb c.low m) r5 h4);
+        most-mark = leb-true m c.high (and_l (leb m c.high) (gap_b seen from p) h5);
+        gap = and_r (leb m c.high) (gap_b seen from p) h5;
       }
 
-  pub of_fits : Fits most same low high seen from p → pair_b most same low high seen from p ≡ true
-  of_fits f = rw (le-leb p.entry 127 f.entry, le-leb p.subject most f.subject, le-leb from (p.subject + same) f.order, le-leb low (mark_of seen p.entry) f.least, le-leb (mark_of seen p.entry) high f.most-mark, f.gap)
+  pub of_fits : Fits c seen from p → pair_b c seen from p ≡ true
+  of_fits f = rw (le-leb p.entry 127 f.entry, le-leb p.subject c.most f.subject, le-leb from (p.subject + to_nat c.same) f.order, le-leb c.low (mark_of seen p.entry) f.least, le-leb (mark_of seen p.entry) c.high f.most-mark, f.gap)
 
 -- ---- marks after a pair was met
 
@@ -83,11 +85,11 @@ mark-off seen met e p q = get_or-set_other seen (2 + p.entry) (2 + e) met 0 (λ 
 
 -- ---- a tree's test
 
-pub record Pass (most same low high : ℕ) (seen : List ℕ) (from : ℕ) (l : List Pair) : Type 0 where
-  pub range : in_range most l ≡ true
-  pub order : order_b same from l ≡ true
+pub record Pass (c : Check) (seen : List ℕ) (from : ℕ) (l : List Pair) : Type 0 where
+  pub range : in_range c.most l ≡ true
+  pub order : order_b c.same from l ≡ true
   pub once : (e : ℕ) → count (is_entry e) l ≤ 1
-  pub marks : (e : ℕ) → 0 < count (is_entry e) l → (low ≤ mark_of seen e) × (mark_of seen e ≤ high)
+  pub marks : (e : ℕ) → 0 < count (is_entry e) l → (c.low ≤ mark_of seen e) × (mark_of seen e ≤ c.high)
   pub gaps : gaps_b seen from l ≡ true
 
 -- marks that agree on a list's entries ask for the same gaps
@@ -96,18 +98,18 @@ gaps-same seen seen' from [] f = refl
 gaps-same seen seen' from (p ∷ l) f =
     rw (f p.entry (omega (arith, count-own p.entry p l refl)), gaps-same seen seen' (suc p.subject) l (λ e i. f e (omega (arith, i)))) refl
 
-module _ (most same low high met : ℕ) (above : high < met) where
-  pub pass_of : (seen : List ℕ) (from : ℕ) (l : List Pair) → length seen ≡ 256 → pairs_b most same low high met seen from l ≡ true → Pass most same low high seen from l
+module _ (c : Check) (above : c.high < c.met) where
+  pub pass_of : (seen : List ℕ) (from : ℕ) (l : List Pair) → length seen ≡ 256 → pairs_b c seen from l ≡ true → Pass c seen from l
   unfolding pairs_b
   pass_of seen from [] n h = record { range = refl; order = refl; once = λ e. omega arith; marks = λ e i. absurd (omega (arith, i)); gaps = refl }
   pass_of seen from (p ∷ l) n h =
-      let f = fits_of most same low high from seen p (and_l (pair_b most same low high seen from p) (pairs_b most same low high met (meets met seen p) (suc p.subject) l) h) in
-      let r = pass_of (meets met seen p) (suc p.subject) l (length-set seen (2 + p.entry) met ∙ n) (and_r (pair_b most same low high seen from p) (pairs_b most same low high met (meets met seen p) (suc p.subject) l) h) in
+      let f = fits_of c from seen p (and_l (pair_b c seen from p) (pairs_b c (meets c.met seen p) (suc p.subject) l) h) in
+      let r = pass_of (meets c.met seen p) (suc p.subject) l (length-set seen (2 + p.entry) c.met ∙ n) (and_r (pair_b c seen from p) (pairs_b c (meets c.met seen p) (suc p.subject) l) h) in
       let gone : count (is_entry p.entry) l < 1 = gone_if f (r.marks p.entry) in
       let off : (e : ℕ) → 0 < count (is_entry e) l → e ≢ p.entry = λ e i z. omega (arith, i, gone, ap (λ (y : ℕ). count (is_entry y) l) z) in
       record {
-        range = range_cons most p l f.entry f.subject r.range;
-        order = and-true (leb from (p.subject + same)) (order_b same (suc p.subject) l) (le-leb from (p.subject + same) f.order) r.order;
+        range = range_cons c.most p l f.entry f.subject r.range;
+        order = and-true (leb from (p.subject + to_nat c.same)) (order_b c.same (suc p.subject) l) (le-leb from (p.subject + to_nat c.same) f.order) r.order;
         once = λ e. elim (ℕ_discrete e p.entry) [
           | yes q ↦ omega (arith, count-own e p l q, ap (λ (z : ℕ). count (is_entry z) l) q, gone)
           | no q ↦ omega (arith, count-off e p l q, r.once e)
@@ -116,44 +118,44 @@ module _ (most same low high met : ℕ) (above : high < met) where
           | yes q ↦ (omega (arith, f.least, ap (mark_of seen) q), omega (arith, f.most-mark, ap (mark_of seen) q))
           | no q ↦
               let k = r.marks e (omega (arith, count-off e p l q)) in
-              (omega (arith, k.0, mark-off seen met e p q), omega (arith, k.1, mark-off seen met e p q))
+              (omega (arith, k.0, mark-off seen c.met e p q), omega (arith, k.1, mark-off seen c.met e p q))
         ];
-        gaps = and-true (gap_b seen from p) (gaps_b seen (suc p.subject) l) f.gap (gaps-same seen (meets met seen p) (suc p.subject) l (λ e i. sym (mark-off seen met e p (off e i))) ∙ r.gaps);
+        gaps = and-true (gap_b seen from p) (gaps_b seen (suc p.subject) l) f.gap (gaps-same seen (meets c.met seen p) (suc p.subject) l (λ e i. sym (mark-off seen c.met e p (off e i))) ∙ r.gaps);
       }
     where
-      gone_if : Fits most same low high seen from p → (0 < count (is_entry p.entry) l → (low ≤ mark_of (meets met seen p) p.entry) × (mark_of (meets met seen p) p.entry ≤ high)) → count (is_entry p.entry) l < 1
+      gone_if : Fits c seen from p → (0 < count (is_entry p.entry) l → (c.low ≤ mark_of (meets c.met seen p) p.entry) × (mark_of (meets c.met seen p) p.entry ≤ c.high)) → count (is_entry p.entry) l < 1
       gone_if f g = elim (ℕ_discrete (count (is_entry p.entry) l) 0) [
         | yes q ↦ omega arith
-        | no q ↦ absurd (omega (arith, above, (g (omega arith)).1, mark-own seen met p.entry p n f.entry refl))
+        | no q ↦ absurd (omega (arith, above, (g (omega arith)).1, mark-own seen c.met p.entry p n f.entry refl))
       ]
 
   -- and back
-  pub of_pass : (seen : List ℕ) (from : ℕ) (l : List Pair) → length seen ≡ 256 → Pass most same low high seen from l → pairs_b most same low high met seen from l ≡ true
+  pub of_pass : (seen : List ℕ) (from : ℕ) (l : List Pair) → length seen ≡ 256 → Pass c seen from l → pairs_b c seen from l ≡ true
   unfolding pairs_b
   of_pass seen from [] n w = refl
   of_pass seen from (p ∷ l) n w =
       let own : 0 < count (is_entry p.entry) (p ∷ l) = omega (arith, count-own p.entry p l refl) in
       let out : count (is_entry p.entry) l < 1 = omega (arith, count-own p.entry p l refl, w.once p.entry) in
-      let r = range-parts most p l w.range in
+      let r = range-parts c.most p l w.range in
       let off : (e : ℕ) → 0 < count (is_entry e) l → e ≢ p.entry = λ e i z. omega (arith, i, out, ap (λ (y : ℕ). count (is_entry y) l) z) in
-      and-true (pair_b most same low high seen from p) (pairs_b most same low high met (meets met seen p) (suc p.subject) l)
-      (of_fits most same low high from seen p (record {
+      and-true (pair_b c seen from p) (pairs_b c (meets c.met seen p) (suc p.subject) l)
+      (of_fits c from seen p (record {
         entry = r.0;
         subject = r.1;
-        order = leb-true from (p.subject + same) (and_l (leb from (p.subject + same)) (order_b same (suc p.subject) l) w.order);
+        order = leb-true from (p.subject + to_nat c.same) (and_l (leb from (p.subject + to_nat c.same)) (order_b c.same (suc p.subject) l) w.order);
         least = (w.marks p.entry own).0;
         most-mark = (w.marks p.entry own).1;
         gap = and_l (gap_b seen from p) (gaps_b seen (suc p.subject) l) w.gaps;
       }))
-      (of_pass (meets met seen p) (suc p.subject) l (length-set seen (2 + p.entry) met ∙ n)
+      (of_pass (meets c.met seen p) (suc p.subject) l (length-set seen (2 + p.entry) c.met ∙ n)
       (record {
         range = r.2;
-        order = and_r (leb from (p.subject + same)) (order_b same (suc p.subject) l) w.order;
+        order = and_r (leb from (p.subject + to_nat c.same)) (order_b c.same (suc p.subject) l) w.order;
         once = λ e. elim (ℕ_discrete (count (is_entry e) l) 0) [ yes z ↦ omega arith | no z ↦ omega (arith, w.once e, count-off e p l (off e (omega arith))) ];
         marks = λ e i.
             let b = w.marks e (omega (arith, i, count-off e p l (off e i))) in
-            (omega (arith, b.0, mark-off seen met e p (off e i)), omega (arith, b.1, mark-off seen met e p (off e i)));
-        gaps = sym (gaps-same seen (meets met seen p) (suc p.subject) l (λ e i. sym (mark-off seen met e p (off e i)))) ∙ and_r (gap_b seen from p) (gaps_b seen (suc p.subject) l) w.gaps;
+            (omega (arith, b.0, mark-off seen c.met e p (off e i)), omega (arith, b.1, mark-off seen c.met e p (off e i)));
+        gaps = sym (gaps-same seen (meets c.met seen p) (suc p.subject) l (λ e i. sym (mark-off seen c.met e p (off e i)))) ∙ and_r (gap_b seen from p) (gaps_b seen (suc p.subject) l) w.gaps;
       }))
 
 -- ---- the marks that are left
@@ -187,14 +189,14 @@ after-length met seen (p ∷ l) = after-length met (meets met seen p) l ∙ leng
 -- ---- order
 
 -- pairs that may share a subject
-pub order_same : (from : ℕ) (l : List Pair) → order_b 1 from l ≡ in_order (from - 1) l
+pub order_same : (from : ℕ) (l : List Pair) → order_b true from l ≡ in_order (from - 1) l
 order_same from [] = refl
 order_same from (p ∷ l) =
     let x : suc p.subject - 1 ≡ p.subject = omega arith in
     rw (same_test (leb from (p.subject + 1)) (leb (from - 1) p.subject) (λ h. le-leb (from - 1) p.subject (omega (arith, leb-true from (p.subject + 1) h))) (λ h. le-leb from (p.subject + 1) (omega (arith, leb-true (from - 1) p.subject h))), order_same (suc p.subject) l, x) refl
 
 -- pairs that may not
-pub order-rising : (from : ℕ) (l : List Pair) → order_b 0 from l ≡ rising from l
+pub order-rising : (from : ℕ) (l : List Pair) → order_b false from l ≡ rising from l
 order-rising from [] = refl
 order-rising from (p ∷ l) =
     let x : p.subject + 0 ≡ p.subject = omega arith in

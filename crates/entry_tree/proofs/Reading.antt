@@ -1,21 +1,25 @@
 -- The pairs that the bytes of a tree mean.
-use Prim.Native.Nat.{ℕ, suc, ◌-◌, ◌<◌, ◌≤◌}
-use mathlib.Core.Path.{◌≡◌, sym, ap, ◌∙◌}
-use mathlib.Core.Logic.{◌≢◌}
-use mathlib.Core.List.{List}
-use mathlib.Core.Bool.{Bool, true, false}
+use Prim.Native.Nat.{ℕ, zero, suc, ◌+◌, ◌*◌, ◌-◌, ◌<◌, ◌≤◌}
+use mathlib.Core.Path.{◌≡◌, refl, sym, ap, ◌∙◌}
+use mathlib.Core.List.{List, [], ◌∷◌, map}
+use mathlib.Core.Bool.{Bool, cond, not}
 use native.Mathlib.Omega.{arith}
-use lib.ListN.{length, get_or}
-use lib.Dec.{eqb, ltb}
-use borrow.Author.Tests.{eq-eqb, ne_eqb, eqb-true}
+use native.Mathlib.Nat.{not-suc-le-zero}
+use lib.ListN.{length, get_or, take, drop, length-drop}
+use lib.Seq.{ext_get_or, length-take-le, take_all, get_or-take, get_or-drop, drop-drop}
+use borrow.Author.Tests.{eqb-true}
+use Rattle.std.specs.Prelude.{Some, is_some, position}
+use Rattle.std.specs.List.{position_or_len}
+use Rattle.std.specs.Simd.{first_chunks}
+use Rattle.std.proofs.lemmas.List.{length-map, get_or-map}
 use mir.Val.{Fits}
 use mir.Syntax.{w8}
 use Rattle.state.specs.Result.{Bytes}
 use Rattle.state.proofs.Seq.{length-each, get_d_each}
-use Rattle.entry_tree.specs.Pairs.{Pair, any, is_entry, place_of}
+use Rattle.entry_tree.specs.Pairs.{Pair, pair, any, is_entry, place_of}
 use Rattle.entry_tree.specs.Places.{size, entry_at, subject_at, pair_at, read}
-use Rattle.entry_tree.specs.Inner.{position}
-use Rattle.entry_tree.proofs.Lists.{none, any-position, position-true, position_at, position-none, place-subject, place-from, from_first, from_next}
+use Rattle.entry_tree.specs.Inner.{pair_of}
+use Rattle.entry_tree.proofs.Lists.{none, First, first_of, any-position, place-subject, place-from, from_first, from_next}
 
 pub bytes_of : (s : List ℕ) → ((i : ℕ) → Fits w8 (get_or s i 0)) → Bytes s
 bytes_of s g i = omega (arith, g i)
@@ -28,48 +32,73 @@ pub read_at : (t : List ℕ) (i : ℕ) → i < size t → get_or (read t) i none
 unfolding read
 read_at t i h = get_d_each (size t) (pair_at t) i none h
 
--- the code's comparison of r, which is a, with x
-pub is_same : (x a r : ℕ) → r ≡ a → r ≡ x → eqb x a ≡ true
-is_same x a r p q = eq-eqb x a (omega arith)
+-- ---- the pairs as the code cuts them: three bytes each
 
-pub is-other : (x a r : ℕ) → r ≡ a → r ≢ x → eqb x a ≡ false
-is-other x a r p q = ne_eqb x a (λ z. q (omega arith))
+chunk_at : (k : ℕ) (s : List ℕ) (i : ℕ) → i < k → get_or (first_chunks 3 k s) i [] ≡ take 3 (drop (3 * i) s)
+chunk_at zero s i h = absurd (not-suc-le-zero h)
+chunk_at (suc k) s zero h = refl
+chunk_at (suc k) s (suc i) h =
+    let z : 3 + 3 * i ≡ 3 * suc i = omega arith in
+    chunk_at k (drop 3 s) i (omega arith) ∙ ap (take 3) (drop-drop (3 * i) 3 s ∙ ap (λ (j : ℕ). drop j s) z)
 
--- the first pair in the bytes that passes a test
-module _ (test : Pair → Bool) (t : List ℕ) (i : ℕ) (f : (k : ℕ) → k < i → test (pair_at t k) ≡ false) where
-  failed : i ≤ size t → (k : ℕ) → k < i → test (get_or (read t) k none) ≡ false
-  failed h k g = ap test (read_at t k (omega arith)) ∙ f k g
+length-chunks : (k : ℕ) (s : List ℕ) → length (first_chunks 3 k s) ≡ k
+length-chunks zero s = refl
+length-chunks (suc k) s = ap suc (length-chunks k (drop 3 s))
 
-  pub found_at : i < size t → test (pair_at t i) ≡ true → i ≡ position test (read t)
-  found_at h q = sym (position_at test (read t) i (omega (arith, read_length t)) (failed (omega arith)) (ap test (read_at t i h) ∙ q))
+-- of the bytes past the first, which hold k places
+pub read-chunks : (t : List ℕ) (k n : ℕ) → n ≡ size t → n ≤ k → read t ≡ map pair_of (take n (first_chunks 3 k (take (length t - 1) (drop 1 t))))
+read-chunks t k n q m =
+    let rest : take (length t - 1) (drop 1 t) ≡ drop 1 t = take_all (length t - 1) (drop 1 t) (omega (arith, length-drop 1 t)) in
+    let chunks = first_chunks 3 k (drop 1 t) in
+    let long : length (take n chunks) ≡ n = length-take-le n chunks (omega (arith, length-chunks k (drop 1 t))) in
+    rw rest
+    (ext_get_or none (read t) (map pair_of (take n chunks)) (read_length t ∙ sym q ∙ sym (length-map (take n chunks) pair_of ∙ long)) (λ i h.
+    let b : i < n = omega (arith, read_length t) in
+    read_at t i (omega arith)
+    ∙ sym (get_or-map pair_of (take n chunks) i [] none (omega arith)
+    ∙ ap pair_of (get_or-take n chunks i [] b ∙ chunk_at k (drop 1 t) i (omega arith))
+    ∙ pair-chunk i)))
+  where
+    pair-chunk : (i : ℕ) → pair_of (take 3 (drop (3 * i) (drop 1 t))) ≡ pair_at t i
+    pair-chunk i =
+        let byte : (j k : ℕ) → j < 3 → 1 + (3 * i + j) ≡ k → get_or (take 3 (drop (3 * i) (drop 1 t))) j 0 ≡ get_or t k 0 = λ j k h q.
+        get_or-take 3 (drop (3 * i) (drop 1 t)) j 0 h ∙ get_or-drop (3 * i) (drop 1 t) j 0 ∙ get_or-drop 1 t (3 * i + j) 0 ∙ ap (λ (z : ℕ). get_or t z 0) q in
+        let e = byte 0 (1 + 3 * i) (omega arith) (omega arith) in
+        let l = byte 1 (2 + 3 * i) (omega arith) (omega arith) in
+        let h = byte 2 (3 + 3 * i) (omega arith) (omega arith) in
+        λ z. pair (e z) (l z + 256 * h z)
 
-  pub found_none : (n : ℕ) → n ≡ size t → n ≤ i → n ≡ position test (read t)
-  found_none n q h =
-      q ∙ sym (read_length t) ∙ sym (position-none test (read t) (λ k g. let b : k < size t = omega (arith, read_length t) in ap test (read_at t k b) ∙ f k (omega arith)))
+-- the first of the pairs' bytes that passes a test is the first pair
+pub position-read : (test : Pair → Bool) (t : List ℕ) (places : List (List ℕ)) → read t ≡ map pair_of places → position (λ p. test (pair_of p)) places ≡ position test (read t)
+position-read test t places q = sym (ap (position test) q ∙ rw (first places, length-map places pair_of))
+  where
+    first : (l : List (List ℕ)) → position_or_len test (map pair_of l) ≡ position_or_len (λ p. test (pair_of p)) l
+    first [] = refl
+    first (x ∷ l) = ap (λ (n : ℕ). cond (not (test (pair_of x))) (1 + n) 0) (first l)
 
-pub read-any : (test : Pair → Bool) (t : List ℕ) → any test (read t) ≡ ltb (position test (read t)) (size t)
-read-any test t = any-position test (read t) ∙ ap (ltb (position test (read t))) (read_length t)
+pub read-any : (test : Pair → Bool) (t : List ℕ) → is_some (position test (read t)) ≡ any test (read t)
+read-any test t = any-position test (read t)
 
 -- ---- the place of an entry, and the last pair, in the bytes
 
 read-subject : (t : List ℕ) (i : ℕ) → i < size t → (get_or (read t) i none).subject ≡ subject_at t i
 read-subject t i h = ap (λ (p : Pair). p.subject) (read_at t i h)
 
-module _ (t : List ℕ) (e i : ℕ) (q : i ≡ position (is_entry e) (read t)) (h : i < size t) where
-  within : i < length (read t)
-  within = omega (arith, read_length t)
+module _ (t : List ℕ) (e i : ℕ) (q : position (is_entry e) (read t) ≡ Some i) where
+  first : First (is_entry e) (read t) i
+  first = first_of (is_entry e) (read t) i q
+
+  within : i < size t
+  within = omega (arith, first.within, read_length t)
 
   pub read-place-entry : entry_at t i ≡ e
-  read-place-entry =
-      let z = position-true (is_entry e) (read t) (omega (arith, read_length t)) in
-      let w : is_entry e (get_or (read t) i none) ≡ true = ap (λ (j : ℕ). is_entry e (get_or (read t) j none)) q ∙ z in
-      sym (eqb-true e (get_or (read t) i none).entry w ∙ ap (λ (p : Pair). p.entry) (read_at t i h))
+  read-place-entry = sym (eqb-true e (get_or (read t) i none).entry first.here ∙ ap (λ (p : Pair). p.entry) (read_at t i within))
 
   pub read-place-subject : (place_of e (read t)).subject ≡ subject_at t i
-  read-place-subject = place-subject e (read t) i (sym q) within ∙ read-subject t i h
+  read-place-subject = place-subject e (read t) i q ∙ read-subject t i within
 
   pub read-place-first : i ≡ 0 → (place_of e (read t)).from ≡ 0
-  read-place-first z = place-from e (read t) i (sym q) within ∙ from_first 0 (read t) i z
+  read-place-first z = place-from e (read t) i q ∙ from_first 0 (read t) i z
 
   pub read-place-from : 0 < i → (place_of e (read t)).from ≡ suc (subject_at t (i - 1))
-  read-place-from z = place-from e (read t) i (sym q) within ∙ from_next 0 (read t) i z ∙ ap suc (read-subject t (i - 1) (omega arith))
+  read-place-from z = place-from e (read t) i q ∙ from_next 0 (read t) i z ∙ ap suc (read-subject t (i - 1) (omega (arith, within)))

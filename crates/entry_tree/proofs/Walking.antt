@@ -3,62 +3,47 @@ use Prim.Native.Nat.{ℕ, zero, suc, ◌<◌, ◌≤◌}
 use mathlib.Core.Path.{◌≡◌, refl, sym, ap, ◌∙◌, subst}
 use mathlib.Core.Logic.{◌≢◌}
 use mathlib.Core.List.{List, [], ◌∷◌}
-use Rattle.std.specs.Prelude.{Option, None, Some}
-use mathlib.Core.Bool.{Bool, true, false, cond}
+use Rattle.std.specs.Prelude.{Option, None, Some, position}
+use mathlib.Core.Bool.{Bool, cond}
 use native.Mathlib.Omega.{arith}
 use native.Mathlib.Nat.{not-suc-le-zero}
 use native.Mathlib.Decide.{dec_lt}
 use lib.Dec.{eqb, ltb}
-use lib.ListN.{length, get_or, set, drop}
-use lib.Seq.{set-get_or}
+use lib.ListN.{get_or}
 use borrow.Author.Tests.{lt-ltb, le-ltb, eqb-true, eqb-false, eq-eqb, ne_eqb}
 use Rattle.state.proofs.Tests.{by_cond}
 use Rattle.entry_tree.specs.Pairs.{Pair, count, is_entry, on_subject, find, place_of, without}
-use Rattle.entry_tree.specs.Places.{size, entry_at, read}
+use Rattle.entry_tree.specs.Places.{entry_at, read}
 use Rattle.entry_tree.specs.Walks.{first, first_on, next_on, moved_past, walk_of, walk_over}
-use Rattle.entry_tree.specs.Inner.{position, with_walk, with_walk_past}
-use Rattle.entry_tree.proofs.Lists.{none as no-pair}
+use Rattle.entry_tree.specs.Inner.{with_walk, with_walk_past}
+use Rattle.entry_tree.proofs.Lists.{none as no-pair, First, first_of, not-placed}
 use Rattle.entry_tree.proofs.Reading.{read_length, read_at}
-use Rattle.entry_tree.proofs.Finding.{drop-next, drop_end}
 use Rattle.entry_tree.proofs.Changes.{without-count-other}
-use Rattle.entry_tree.proofs.Count.{same, diff, compare_eq, count-self, not_there}
+use Rattle.entry_tree.proofs.Count.{same, diff, compare_eq, any_false, count-self, not_there}
 
 -- ---- starting
 
 -- the first entry on a subject, by its place
-pub first-at : (x : ℕ) (l : List Pair) (i : ℕ) → i ≡ position (on_subject x) l → i < length l → first_on x l ≡ Some (get_or l i no-pair).entry
-first-at x [] i q h = absurd (not-suc-le-zero h)
-first-at x (p ∷ l) i q h = go (on_subject x p) i q h (first-at x l)
-  where
-    go : (b : Bool) (i : ℕ) → i ≡ cond b 0 (suc (position (on_subject x) l)) → i < suc (length l) → ((j : ℕ) → j ≡ position (on_subject x) l → j < length l → first_on x l ≡ Some (get_or l j no-pair).entry)
-        → cond b (Some p.entry) (first_on x l) ≡ Some (get_or (p ∷ l) i no-pair).entry
-    go true i q h r = ap (λ (j : ℕ). Some (get_or (p ∷ l) j no-pair).entry) (sym q)
-    go false zero q h r = absurd (omega arith)
-    go false (suc j) q h r = r j (omega arith) (omega arith)
+first-at : (x : ℕ) (l : List Pair) (i : ℕ) → First (on_subject x) l i → first_on x l ≡ Some (get_or l i no-pair).entry
+first-at x [] i f = absurd (not-suc-le-zero f.within)
+first-at x (p ∷ l) zero f = rw f.here
+first-at x (p ∷ l) (suc i) f =
+    rw (f.before 0 (omega arith)) (first-at x l i (record { within = omega (arith, f.within); here = f.here; before = λ k h. f.before (suc k) (omega arith) }))
 
-pub first-none : (x : ℕ) (l : List Pair) → length l ≤ position (on_subject x) l → first_on x l ≡ None
-first-none x [] h = refl
-first-none x (p ∷ l) h = go (on_subject x p) h (first-none x l)
-  where
-    go : (b : Bool) → suc (length l) ≤ cond b 0 (suc (position (on_subject x) l)) → (length l ≤ position (on_subject x) l → first_on x l ≡ None) → cond b (Some p.entry) (first_on x l) ≡ None
-    go true h r = absurd (not-suc-le-zero h)
-    go false h r = r (omega arith)
+first-none : (x : ℕ) (l : List Pair) → count (on_subject x) l ≡ 0 → first_on x l ≡ None
+first-none x [] z = refl
+first-none x (p ∷ l) z = elim (compare_eq x p.subject) [ same q t ↦ absurd (omega (arith, rw t at z)) | diff n t ↦ rw t (first-none x l (omega (arith, rw t at z))) ]
 
-module _ (t : List ℕ) (x i : ℕ) (q : i ≡ position (on_subject x) (read t)) where
-  pub start-at : (n e : ℕ) → n ≡ size t → i < n → e ≡ entry_at t i → Some e ≡ first_on x (read t)
-  start-at n e z b w = sym (first-at x (read t) i q (omega (arith, read_length t)) ∙ ap (λ (p : Pair). Some p.entry) (read_at t i (omega arith)) ∙ ap Some (sym w))
+module _ (t : List ℕ) (x : ℕ) where
+  pub start-at : (i : ℕ) → position (on_subject x) (read t) ≡ Some i → Some (entry_at t i) ≡ first_on x (read t)
+  start-at i q =
+      let f = first_of (on_subject x) (read t) i q in
+      sym (first-at x (read t) i f ∙ ap (λ (p : Pair). Some p.entry) (read_at t i (omega (arith, f.within, read_length t))))
 
-  pub start_none : (n : ℕ) → n ≡ size t → n ≤ i → None ≡ first_on x (read t)
-  start_none n z b = sym (first-none x (read t) (omega (arith, read_length t)))
+  pub start_none : position (on_subject x) (read t) ≡ None → None ≡ first_on x (read t)
+  start_none q = sym (first-none x (read t) (any_false (on_subject x) (read t) (not-placed (on_subject x) (read t) q)))
 
 -- ---- going on
-
-module _ (t : List ℕ) (i : ℕ) where
-  pub after_none : size t ≤ suc i → None ≡ first (drop (suc i) (read t))
-  after_none h = sym (ap first (drop_end t i h))
-
-  pub after-some : (j e : ℕ) → j ≡ suc i → j < size t → e ≡ entry_at t j → Some e ≡ first (drop (suc i) (read t))
-  after-some j e q h w = ap Some w ∙ sym (ap first (drop-next t i j q h))
 
 -- whom it points at then
 pub some_is : (a b : ℕ) → ◌≡◌ {A = Option ℕ} (Some a) (Some b) → a ≡ b
@@ -135,12 +120,6 @@ walk_same v = elim (dec_lt v 128) [ yes l ↦ rw (lt-ltb v 128 l) refl | no l �
 -- ---- stores
 
 module _ (i : ℕ) (s : List ℕ) where
-  pub walk_ends : (w : Option ℕ) → w ≡ None → get_or s i 0 < 128 → set s i 255 ≡ with_walk i s w
-  walk_ends w q l = rw (q, lt-ltb (get_or s i 0) 128 l)
-
-  pub walk-ended : (w : Option ℕ) → w ≡ None → 128 ≤ get_or s i 0 → s ≡ with_walk i s w
-  walk-ended w q l = sym (rw (q, le-ltb (get_or s i 0) 128 l) (set-get_or s i 0))
-
   pub walk-past : (e : ℕ) (w : Option ℕ) → get_or s i 0 ≡ e → with_walk i s w ≡ with_walk_past i s e w
   walk-past e w q = rw (eq-eqb (get_or s i 0) e q)
 

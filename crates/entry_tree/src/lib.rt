@@ -4,11 +4,10 @@
 pub mod walk;
 pub mod whole;
 
-ghost use Rattle.std.specs.Prelude.{◌≡◌, true, ◌+◌, ◌-◌, ◌*◌, ◌<◌, ◌≤◌, length};
+ghost use Rattle.std.specs.Prelude.{◌≡◌, true, ◌+◌, ◌-◌, ◌*◌, ◌<◌, ◌≤◌, length, leb, map, position};
 ghost use Rattle.entry_tree.specs.Pairs.{pair, is_entry, on_subject, has_entry, has_subject, inserted, in_order};
 ghost use Rattle.entry_tree.specs.Places.{size, entry_at, subject_at, read, laid};
-ghost use Rattle.entry_tree.specs.Inner as inner;
-ghost use Rattle.entry_tree.specs.Inner.{tree_length, cell_of, set_cell, Between, RoomMade, ClosedUp, removed_at};
+ghost use Rattle.entry_tree.specs.Inner.{IsTree, IsUpperBound, tree_length, pair_of, cell_of, set_cell, removed_at};
 
 // ---- looking
 
@@ -16,7 +15,7 @@ pub fn len(t: &[u8]) -> usize
     requires { length t.now ≡ tree_length }
     ensures { (result ≡ size t.now) × (result < 256) }
 {
-    t[0] as usize
+    usize::from(t[0])
 }
 
 pub fn entry_at(t: &[u8], i: usize) -> u8
@@ -30,55 +29,64 @@ pub fn subject_at(t: &[u8], i: usize) -> u16
     requires { (length t.now ≡ tree_length) × (i < 128) }
     ensures { result ≡ subject_at t.now i }
 {
-    (t[2 + 3 * i] as u16) + 256 * (t[3 + 3 * i] as u16)
+    u16::from_le_bytes([t[2 + 3 * i], t[3 + 3 * i]])
 }
 
-// The place of the entry, or the number of pairs if it is not there.
-pub fn position(t: &[u8], entry: u8) -> usize
-    requires { (length t.now ≡ tree_length) × (size t.now ≤ 128) }
-    ensures { result ≡ inner.position (is_entry «entry») (read t.now) }
+// The pairs: each an entry, and its subject, low byte first.
+fn pairs(t: &[u8]) -> &[[u8; 3]]
+    requires { IsTree t.now }
+    ensures { read t.now ≡ map pair_of result.now }
 {
-    let n = len(t);
-    let mut i = 0;
-    while i < n {
-        if entry_at(t, i) == entry {
-            return i;
-        }
-        i += 1;
-    }
-    n
+    let (places, _) = t[1..].as_chunks::<3>();
+    &places[..len(t)]
 }
 
-// The place of the first pair on the subject, or the number of pairs if there is none.
-pub fn first_on(t: &[u8], subject: u16) -> usize
-    requires { (length t.now ≡ tree_length) × (size t.now ≤ 128) }
-    ensures { result ≡ inner.position (on_subject subject) (read t.now) }
+fn subject_of(pair: &[u8; 3]) -> u16
+    ensures { result ≡ (pair_of pair.now).subject }
 {
-    let n = len(t);
-    let mut i = 0;
-    while i < n {
-        if subject_at(t, i) == subject {
-            return i;
-        }
-        i += 1;
-    }
-    n
+    u16::from_le_bytes([pair[1], pair[2]])
+}
+
+fn position_in(pairs: &[[u8; 3]], entry: u8) -> Option<usize>
+    ensures { result ≡ position (λ p. is_entry «entry» (pair_of p)) pairs.now }
+{
+    pairs.iter().position(|pair| entry == pair[0])
+}
+
+fn first_in(pairs: &[[u8; 3]], subject: u16) -> Option<usize>
+    ensures { result ≡ position (λ p. on_subject subject (pair_of p)) pairs.now }
+{
+    pairs.iter().position(|pair| subject == subject_of(pair))
+}
+
+// The place of the entry.
+pub fn position(t: &[u8], entry: u8) -> Option<usize>
+    requires { IsTree t.now }
+    ensures { result ≡ position (is_entry «entry») (read t.now) }
+{
+    position_in(pairs(t), entry)
+}
+
+// The place of the first pair on the subject.
+pub fn first_on(t: &[u8], subject: u16) -> Option<usize>
+    requires { IsTree t.now }
+    ensures { result ≡ position (on_subject subject) (read t.now) }
+{
+    first_in(pairs(t), subject)
 }
 
 pub fn has_entry(t: &[u8], entry: u8) -> bool
-    requires { (length t.now ≡ tree_length) × (size t.now ≤ 128) }
+    requires { IsTree t.now }
     ensures { result ≡ has_entry «entry» (read t.now) }
 {
-    let i = position(t, entry);
-    i < len(t)
+    position(t, entry).is_some()
 }
 
 pub fn has_subject(t: &[u8], subject: u16) -> bool
-    requires { (length t.now ≡ tree_length) × (size t.now ≤ 128) }
+    requires { IsTree t.now }
     ensures { result ≡ has_subject subject (read t.now) }
 {
-    let i = first_on(t, subject);
-    i < len(t)
+    first_on(t, subject).is_some()
 }
 
 // ---- changing
@@ -92,69 +100,42 @@ pub fn write_place(t: &mut [u8], place: usize, entry: u8, subject: u16)
     t[3 + 3 * place] = (subject / 256) as u8;
 }
 
-// Where a pair on the subject belongs, after its equals.
+// Whether a pair on the subject joins after this one.
+fn is_before(pair: &[u8; 3], subject: u16) -> bool
+    ensures { result ≡ leb (pair_of pair.now).subject subject }
+{
+    subject_of(pair) <= subject
+}
+
+// Where a pair on the subject joins.
 fn upper_bound(t: &[u8], subject: u16) -> usize
-    requires { (length t.now ≡ tree_length) × (size t.now ≤ 128) }
-    ensures { Between t.now subject result result }
+    requires { IsTree t.now × (in_order 0 (read t.now) ≡ true) }
+    ensures { IsUpperBound t.now subject result }
 {
-    let mut low = 0;
-    let mut high = len(t);
-    while low < high {
-        let mid = (low + high) / 2;
-        if subject_at(t, mid) <= subject {
-            low = mid + 1;
-        } else {
-            high = mid;
-        }
-    }
-    low
+    pairs(t).partition_point(|pair| is_before(pair, subject))
 }
 
-// Moves each pair from the place `i` on one place on.
-fn make_room(t: &mut [u8], i: usize)
-    requires { (length t.old ≡ tree_length) × ((size t.old < 128) × (i ≤ size t.old)) }
-    ensures { RoomMade t.old t.new (1 + 3 * i) (1 + 3 * size t.old) }
-{
-    let start = 1 + 3 * i;
-    let mut k = 1 + 3 * len(t);
-    while start < k {
-        k -= 1;
-        t[k + 3] = t[k];
-    }
-}
-
-// The pair joins, after its equals.
+// The pair joins, after its equals. One copy of the code for all callers, for the archive's bound.
+#[inline(never)]
 pub fn insert(t: &mut [u8], entry: u8, subject: u16)
     requires { (length t.old ≡ tree_length) × ((size t.old < 128) × (in_order 0 (read t.old) ≡ true)) }
     ensures { t.new ≡ laid (inserted (pair entry subject) (read t.old)) t.old }
 {
     let n = len(t);
     let i = upper_bound(t, subject);
-    make_room(t, i);
+    t.copy_within(1 + 3 * i..1 + 3 * n, 4 + 3 * i);
     write_place(t, i, entry, subject);
     t[0] = (n + 1) as u8;
 }
 
-// Moves each pair after the place `i` one place back.
-fn close_up(t: &mut [u8], i: usize)
-    requires { (length t.old ≡ tree_length) × ((size t.old ≤ 128) × (i < size t.old)) }
-    ensures { ClosedUp t.old t.new (1 + 3 * i) (3 * size t.old - 2) }
-{
-    let end = 3 * len(t) - 2;
-    let mut k = 1 + 3 * i;
-    while k < end {
-        t[k] = t[k + 3];
-        k += 1;
-    }
-}
-
-// The pair at the place `i` leaves.
+// The pair at the place i leaves. One copy of the code for all callers, for the archive's bound.
+#[inline(never)]
 pub fn remove(t: &mut [u8], i: usize)
-    requires { (length t.old ≡ tree_length) × ((size t.old ≤ 128) × (i < size t.old)) }
+    requires { IsTree t.old × (i < size t.old) }
     ensures { t.new ≡ laid (removed_at i (read t.old)) t.old }
 {
     let last = len(t) - 1;
-    close_up(t, i);
+    t.copy_within(4 + 3 * i..4 + 3 * last, 1 + 3 * i);
     write_place(t, last, 255, 65535);
     t[0] = last as u8;
 }

@@ -2,42 +2,38 @@
 ghost use Rattle.std.specs.Prelude.{◌≡◌, suc, ◌<◌, ◌≤◌, length, drop};
 ghost use Rattle.entry_tree.specs.Places.{size, subject_at, read};
 ghost use Rattle.entry_tree.specs.Walks.{first, first_on, next_on};
-ghost use Rattle.entry_tree.specs.Inner.{tree_length, with_walk, with_walk_past};
+ghost use Rattle.entry_tree.specs.Inner.{IsTree, with_walk, with_walk_past};
 
-use crate::{entry_at, first_on, len, subject_at};
+use crate::{entry_at, first_on, pairs, subject_at, subject_of};
 
 // The first entry on the subject.
 pub fn start_on(t: &[u8], subject: u16) -> Option<u8>
-    requires { (length t.now ≡ tree_length) × (size t.now ≤ 128) }
+    requires { IsTree t.now }
     ensures { result ≡ first_on subject (read t.now) }
 {
-    let i = first_on(t, subject);
-    if i < len(t) {
-        return Some(entry_at(t, i));
-    }
-    None
+    let i = first_on(t, subject)?;
+    Some(entry_at(t, i))
 }
 
 // The entry after the place i.
 pub fn next(t: &[u8], i: usize) -> Option<u8>
-    requires { (length t.now ≡ tree_length) × ((size t.now ≤ 128) × (i < size t.now)) }
+    requires { IsTree t.now × (i < size t.now) }
     ensures { result ≡ first (drop (suc i) (read t.now)) }
 {
-    if len(t) <= i + 1 {
-        return None;
-    }
-    Some(entry_at(t, i + 1))
+    let pair = pairs(t).get(i + 1)?;
+    Some(pair[0])
 }
 
 // The entry after the place i, if it is on the same subject.
 pub fn next_on(t: &[u8], i: usize) -> Option<u8>
-    requires { (length t.now ≡ tree_length) × ((size t.now ≤ 128) × (i < size t.now)) }
+    requires { IsTree t.now × (i < size t.now) }
     ensures { result ≡ next_on (subject_at t.now i) (drop (suc i) (read t.now)) }
 {
-    if len(t) <= i + 1 || subject_at(t, i) < subject_at(t, i + 1) {
+    let next = pairs(t).get(i + 1)?;
+    if subject_at(t, i) < subject_of(next) {
         return None;
     }
-    Some(entry_at(t, i + 1))
+    Some(next[0])
 }
 
 pub fn set_walk(s: &mut [u8], byte: usize, w: Option<u8>)

@@ -2,7 +2,7 @@
 use Prim.Native.Nat.{ℕ, ◌<◌, ◌≤◌}
 use mathlib.Core.Path.{◌≡◌, refl, sym, ap, ◌∙◌}
 use mathlib.Core.List.{List}
-use Rattle.std.specs.Prelude.{Option, None}
+use Rattle.std.specs.Prelude.{Option, None, Some, position}
 use mathlib.Core.Bool.{Bool, true, false, cond}
 use native.Mathlib.Omega.{arith}
 use lib.Dec.{eqb}
@@ -15,8 +15,9 @@ use Rattle.entry_tree.specs.Pairs.{Pair, pair, is_entry, has_entry, in_order, in
 use Rattle.entry_tree.specs.Places as tree
 use Rattle.entry_tree.specs.Walks.{moved_past, walk_over}
 use Rattle.entry_tree.specs.Inner as inner
-use Rattle.entry_tree.specs.Inner.{position, removed_at, with_walk_past}
+use Rattle.entry_tree.specs.Inner.{IsTree, removed_at, with_walk_past}
 use Rattle.entry_tree.proofs.Changes.{inserted-length, removed-length}
+use Rattle.entry_tree.proofs.Lists.{first_of}
 use Rattle.entry_tree.proofs.Finding.{removed-is}
 use Rattle.entry_tree.proofs.Laid as trees
 use Rattle.entry_tree.proofs.Once as once
@@ -63,6 +64,9 @@ module _ (b : List ℕ) (h : whole_b b ≡ true) where
   pub few_pairs : tree.size T ≤ 128
   few_pairs = W.size
 
+  pub is_tree : IsTree T
+  is_tree = record { len = long_tree; few = few_pairs }
+
   pub in_order_lem : in_order 0 (tree.read T) ≡ true
   in_order_lem = F.order
 
@@ -85,7 +89,7 @@ module _ (b : List ℕ) (h : whole_b b ≡ true) where
 
   -- ---- an entry leaves
 
-  module _ (e i : ℕ) (he : e < 128) (at : i ≡ position (is_entry e) m.entries) (l : i < tree.size T) (w : Option ℕ) where
+  module _ (e i : ℕ) (he : e < 128) (at : position (is_entry e) m.entries ≡ Some i) (w : Option ℕ) where
     abbrev s1 : List ℕ
     s1 = with_walk_past 385 b e w
 
@@ -109,9 +113,9 @@ module _ (b : List ℕ) (h : whole_b b ≡ true) where
     left q =
         let t = tree.laid (removed_at i (tree.read (tree_part s1))) (tree_part s1) in
         let is : t ≡ tree.laid (removed_at i m.entries) T = ap (λ (z : List ℕ). tree.laid (removed_at i (tree.read z)) z) tree_then in
-        let few : length (removed_at i m.entries) ≤ 128 = omega (arith, removed-length i m.entries (omega (arith, read_length T, l)), read_length T, few_pairs) in
+        let few : length (removed_at i m.entries) ≤ 128 = omega (arith, removed-length i m.entries (first_of (is_entry e) m.entries i at).within, read_length T, few_pairs) in
         laid_from (leaves e m) b
         (put_tree s1 T v1 (drop 386 b) J1 t (ap length is ∙ trees.length-laid T long_tree (removed_at i m.entries) few))
-        (is ∙ ap (λ (k : List Pair). tree.laid k T) (removed-is T e i at l (F.once e)))
+        (is ∙ ap (λ (k : List Pair). tree.laid k T) (removed-is T e i at (F.once e)))
         (past-over (get_or b 385 0) e w he ∙ ap (λ (o : Option ℕ). walk_over (moved_past e o m.walk) (get_or b 385 0)) q)
         refl

@@ -89,7 +89,7 @@ module _ (b : List ℕ) (l : length b ≡ 389) where
   no_size h = rw (eq-eqb (length b) 389 l, lt-leb (tree.size (tree_part b)) 128 (omega (arith, size_is b)))
 
   module _ (h : get_or b 0 0 ≤ 128) where
-    tested : whole_b b ≡ (pairs_fit_b 8191 1 m.entries && walk_b m.entries m.walk)
+    tested : whole_b b ≡ (pairs_fit_b 8191 true m.entries && walk_b m.entries m.walk)
     unfolding whole_b registry.whole_b pairs_fit_b
     tested =
         rw (eq-eqb (length b) 389 l, le-leb (tree.size (tree_part b)) 128 (omega (arith, size_is b)), order_same 0 m.entries)
@@ -100,7 +100,7 @@ module _ (b : List ℕ) (l : length b ≡ 389) where
         assoc true false r w = refl
         assoc false q r w = refl
 
-    module _ (seen : List ℕ) (r : Bool) (f : Fit 8191 1 seen m.entries r) where
+    module _ (seen : List ℕ) (r : Bool) (f : Fit 8191 true seen m.entries r) where
       pub no_pairs : r ≡ false → whole_b b ≡ false
       no_pairs q = tested ∙ ap (λ (t : Bool). t && walk_b m.entries m.walk) (sym f.test ∙ q)
 

@@ -2,14 +2,13 @@
 // functions: other crates call them, and they may have preconditions.
 #![tactic(auto)]
 
-ghost use Rattle.std.specs.Prelude.{◌≡◌, true, false, ◌<◌, ◌≤◌, length, replicate};
+ghost use Rattle.std.specs.Prelude.{◌≡◌, true, false, ◌<◌, length, position, replicate, Some};
 ghost use Rattle.entry_tree.specs.Pairs.{has_entry, is_entry, place_of};
-ghost use Rattle.entry_tree.specs.Places.{size};
 ghost use Rattle.entry_tree.specs.Places as tree;
-ghost use Rattle.entry_tree.specs.Inner.{position};
+ghost use Rattle.entry_tree.specs.Inner.{IsTree};
 ghost use Rattle.loop_back.specs.Registry.{fresh};
 ghost use Rattle.loop_back.specs.Steps.{goes_on, joins, leaves};
-ghost use Rattle.loop_back.specs.Bytes.{tree_part, whole_b, read, laid};
+ghost use Rattle.loop_back.specs.Bytes.{whole_b, read, laid};
 ghost use Rattle.loop_back.specs.Means.{LoopBackMeans};
 
 use entry_tree::walk::{next, walk_past};
@@ -42,7 +41,7 @@ pub fn whole(s: &[u8]) -> bool
         return false;
     }
     let mut seen = [0u8; 256];
-    if pairs_fit(&s[0..385], &mut seen, 8191, 1) {} else {
+    if !pairs_fit(&s[0..385], &mut seen, 8191, true) {
         return false;
     }
     pointed(&seen, s[385])
@@ -66,7 +65,7 @@ pub fn join(s: &mut [u8], entry: u8, subject: u16)
 
 // Where a walk goes on from the entry at the place i, and where its removal moves it.
 pub fn next_push(t: &[u8], i: usize, entry: u8) -> Option<u8>
-    requires { (length t.now ≡ 385) × ((size t.now ≤ 128) × ((i ≡ position (is_entry «entry») (tree.read t.now)) × (i < size t.now))) }
+    requires { IsTree t.now × (position (is_entry «entry») (tree.read t.now) ≡ Some i) }
     ensures { result ≡ goes_on (place_of «entry» (tree.read t.now)) }
 {
     next(t, i)
@@ -74,7 +73,7 @@ pub fn next_push(t: &[u8], i: usize, entry: u8) -> Option<u8>
 
 // The entry at the place i leaves.
 pub fn leave(s: &mut [u8], entry: u8, i: usize)
-    requires { (whole_b s.old ≡ true) × ((entry < 128) × ((i ≡ position (is_entry «entry») (read s.old).entries) × (i < size (tree_part s.old)))) }
+    requires { (whole_b s.old ≡ true) × ((entry < 128) × (position (is_entry «entry») (read s.old).entries ≡ Some i)) }
     ensures { s.new ≡ laid (leaves «entry» (read s.old)) s.old }
 {
     let w = next_push(&s[0..385], i, entry);

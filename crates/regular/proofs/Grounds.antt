@@ -18,11 +18,13 @@ use Rattle.multi_cycle_list.specs.Inner.{Marked}
 use Rattle.multi_cycle_list.proofs.Laid.{read-valid}
 use Rattle.entry_tree.specs.Places as tree
 use Rattle.regular.specs.Registry as registry
+use Rattle.entry_tree.specs.Inner.{IsTree}
 use Rattle.entry_tree.specs.Testing.{mark_of, pairs_b, seen_after, pointed_b}
 use Rattle.regular.specs.Registry.{last_b}
 use Rattle.regular.specs.Bytes.{active_part, inactive_part, queue_part, read, sizes_b, whole_b}
 use Rattle.regular.specs.Inner.{met_b}
-use Rattle.regular.proofs.Testing.{Marks, Tested, sound, complete}
+use Rattle.regular.proofs.Parts.{split}
+use Rattle.regular.proofs.Testing.{Marks, Tested, active, inactive, sound, complete}
 
 -- ---- sizes
 
@@ -46,6 +48,13 @@ sizes_of s h =
 pub of_sizes : (s : List ℕ) → Sizes s → sizes_b s ≡ true
 unfolding sizes_b
 of_sizes s z = rw (le-leb (tree.size (active_part s)) 128 z.active, le-leb (tree.size (inactive_part s)) 128 z.inactive, eq-eqb (nodes.classes (queue_part s)) 2 z.classes, eq-eqb (nodes.entries (queue_part s)) 128 z.entries)
+
+-- the trees
+pub active-tree : (s : List ℕ) → length s ≡ 1036 → sizes_b s ≡ true → IsTree (active_part s)
+active-tree s l h = record { len = (split s l).long-a; few = (sizes_of s h).active }
+
+pub inactive-tree : (s : List ℕ) → length s ≡ 1036 → sizes_b s ≡ true → IsTree (inactive_part s)
+inactive-tree s l h = record { len = (split s l).long-i; few = (sizes_of s h).inactive }
 
 -- ---- the queue
 
@@ -109,10 +118,10 @@ module _ (s seen : List ℕ) (g : Ground s seen) where
 
   -- ---- each test that fails
 
-  pub no-active : pairs_b 8191 1 0 1 3 seen 0 (read s).active ≡ false → whole_b s ≡ false
+  pub no-active : pairs_b active seen 0 (read s).active ≡ false → whole_b s ≡ false
   no-active f = false_of (whole_b s) (λ h. not-both (sym (tested h).active ∙ f))
 
-  pub no-inactive : pairs_b 8191 1 2 2 4 (seen_after 3 seen (read s).active) 0 (read s).inactive ≡ false → whole_b s ≡ false
+  pub no-inactive : pairs_b inactive (seen_after 3 seen (read s).active) 0 (read s).inactive ≡ false → whole_b s ≡ false
   no-inactive f = false_of (whole_b s) (λ h. not-both (sym (tested h).inactive ∙ f))
 
   pub no-all-met : all_b 128 (met_b (seen_after 4 (seen_after 3 seen (read s).active) (read s).inactive)) ≡ false → whole_b s ≡ false
@@ -126,10 +135,10 @@ module _ (s seen : List ℕ) (g : Ground s seen) where
   points marks (Some w) h e q = let z : w ≡ e = cc in ap (mark_of marks) (sym z) ∙ eqb-true (mark_of marks w) 3 h
 
   of_points : (marks : List ℕ) (o : Option ℕ) → ((e : ℕ) → o ≡ Some e → mark_of marks e ≡ 3) → pointed_b marks o ≡ true
-  of_points marks None f = refl
-  of_points marks (Some w) f = eq-eqb (mark_of marks w) 3 (f w refl)
+  of_points ms None f = refl
+  of_points ms (Some w) f = eq-eqb (mark_of ms w) 3 (f w refl)
 
-  pub whole-last : pairs_b 8191 1 0 1 3 seen 0 (read s).active ≡ true → pairs_b 8191 1 2 2 4 (seen_after 3 seen (read s).active) 0 (read s).inactive ≡ true
+  pub whole-last : pairs_b active seen 0 (read s).active ≡ true → pairs_b inactive (seen_after 3 seen (read s).active) 0 (read s).inactive ≡ true
       → all_b 128 (met_b (seen_after 4 (seen_after 3 seen (read s).active) (read s).inactive)) ≡ true → last_b (read s) ≡ true
       → whole_b s ≡ pointed_b (seen_after 4 (seen_after 3 seen (read s).active) (read s).inactive) (read s).walk
   whole-last a i t l =

@@ -17,6 +17,7 @@ use Rattle.multi_cycle_list.specs.Lists as lists
 use Rattle.entry_tree.specs.Pairs.{Pair, count, is_entry, in_range, in_order, past}
 use Rattle.entry_tree.specs.Walks.{walk_b}
 use Rattle.entry_tree.specs.Testing.{mark_of, pairs_b, seen_after, gaps_b}
+use Rattle.entry_tree.specs.declared.whole.Check.{Check}
 use Rattle.entry_tree.proofs.Passing.{Pass, count-own, range_inside, pass_of, after_in, after-out, after-length, of_pass, order_same}
 use Rattle.regular.specs.Registry.{Registry, queued, once_b, queues_b, marks_b, whole_b}
 use Rattle.regular.specs.Inner.{met_b}
@@ -106,9 +107,16 @@ module _ (m : Registry) where
 
 -- ---- the code's tests
 
+-- what the code asks of the pairs
+abbrev pub active : Check
+active = record { most = 8191; same = true; low = 0; high = 1; met = 3 }
+
+abbrev pub inactive : Check
+inactive = record { most = 8191; same = true; low = 2; high = 2; met = 4 }
+
 pub record Tested (m : Registry) (seen : List ℕ) : Type 0 where
-  pub active : pairs_b 8191 1 0 1 3 seen 0 m.active ≡ true
-  pub inactive : pairs_b 8191 1 2 2 4 (seen_after 3 seen m.active) 0 m.inactive ≡ true
+  pub active : pairs_b active seen 0 m.active ≡ true
+  pub inactive : pairs_b inactive (seen_after 3 seen m.active) 0 m.inactive ≡ true
   pub all-met : all_b 128 (met_b (seen_after 4 (seen_after 3 seen m.active) m.inactive)) ≡ true
   pub last : (not m.last_gap || leb (past 0 m.active) 8191) ≡ true
   pub walk : (e : ℕ) → m.walk ≡ Some e → mark_of (seen_after 4 (seen_after 3 seen m.active) m.inactive) e ≡ 3
@@ -141,11 +149,11 @@ module _ (m : Registry) (seen : List ℕ) (n : length seen ≡ 256) (k : Marks m
       (λ q. eq-eqb (mark_of seen e) 1 (k.in_clean_up e (omega arith) (ltb-true 0 (lists.count e m.clean_up) q)))
 
   module _ (t : Tested m seen) where
-    A : Pass 8191 1 0 1 seen 0 m.active
-    A = pass_of 8191 1 0 1 3 (omega arith) seen 0 m.active n t.active
+    A : Pass active seen 0 m.active
+    A = pass_of active (omega arith) seen 0 m.active n t.active
 
-    I : Pass 8191 1 2 2 one 0 m.inactive
-    I = pass_of 8191 1 2 2 4 (omega arith) one 0 m.inactive one-long t.inactive
+    I : Pass inactive one 0 m.inactive
+    I = pass_of inactive (omega arith) one 0 m.inactive one-long t.inactive
 
     -- an entry's counts and marks
     out : (e : ℕ) → count (is_entry e) m.active ≡ 0 → mark_of one e ≡ mark_of seen e
@@ -285,14 +293,14 @@ module _ (m : Registry) (seen : List ℕ) (n : length seen ≡ 256) (k : Marks m
 
     pub complete : Tested m seen
     complete = record {
-      active = of_pass 8191 1 0 1 3 (omega arith) seen 0 m.active n (record {
+      active = of_pass active (omega arith) seen 0 m.active n (record {
         range = C.range-a;
         order = order_same 0 m.active ∙ C.order-a;
         once = λ e. omega (arith, once-all e);
         marks = λ e i. (omega arith, active-mark e i);
         gaps = gaps_are m.clean_up seen 0 m.active (λ e i. marked_by e (omega (arith, inside-a e i))) ∙ C.marks;
       });
-      inactive = of_pass 8191 1 2 2 4 (omega arith) one 0 m.inactive one-long (record {
+      inactive = of_pass inactive (omega arith) one 0 m.inactive one-long (record {
         range = C.range-i;
         order = order_same 0 m.inactive ∙ C.order-i;
         once = λ e. omega (arith, once-all e);

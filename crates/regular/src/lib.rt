@@ -5,12 +5,13 @@ ghost use Rattle.std.specs.Prelude.{◌≡◌, true, ◌≤◌, length, leb};
 ghost use Rattle.state.specs.Seq.{all_b};
 ghost use Rattle.entry_tree.specs.Pairs.{past};
 ghost use Rattle.entry_tree.specs.Places.{size, read};
+ghost use Rattle.entry_tree.specs.Inner.{IsTree};
 ghost use Rattle.regular.specs.Registry.{last_b};
 ghost use Rattle.regular.specs.Bytes as Bytes;
 ghost use Rattle.regular.specs.Bytes.{sizes_b, active_part, whole_b};
 ghost use Rattle.regular.specs.Inner.{met_b};
 
-use entry_tree::whole::{pairs_ok, pointed};
+use entry_tree::whole::{Check, pairs_ok, pointed};
 use entry_tree::{len, subject_at};
 use multi_cycle_list::whole::whole_marked;
 
@@ -37,6 +38,24 @@ pub enum Popped {
     CallAgain,
     Nothing,
 }
+
+// The active pairs: an entry in the clean-up queue has the mark 1, any other has 0.
+const ACTIVE: Check = Check {
+    most: 8191,
+    same: true,
+    low: 0,
+    high: 1,
+    met: 3,
+};
+
+// The inactive pairs: each entry is in the activation queue, and has the mark 2.
+const INACTIVE: Check = Check {
+    most: 8191,
+    same: true,
+    low: 2,
+    high: 2,
+    met: 4,
+};
 
 fn sizes(s: &[u8]) -> bool
     requires { length s.now ≡ 1036 }
@@ -74,7 +93,7 @@ fn all_met(seen: &[u8]) -> bool
 
 // The first subject past the last pair.
 pub fn past_last(t: &[u8]) -> usize
-    requires { (length t.now ≡ 385) × (size t.now ≤ 128) }
+    requires { IsTree t.now }
     ensures { result ≡ past 0 (read t.now) }
 {
     let n = len(t);
@@ -108,10 +127,10 @@ pub fn whole(s: &[u8]) -> bool
     if whole_marked(&s[770..1032], &mut seen) {} else {
         return false;
     }
-    if pairs_ok(&s[0..385], &mut seen, 8191, 1, 0, 1, 3) {} else {
+    if !pairs_ok(&s[0..385], &mut seen, ACTIVE) {
         return false;
     }
-    if pairs_ok(&s[385..770], &mut seen, 8191, 1, 2, 2, 4) {} else {
+    if !pairs_ok(&s[385..770], &mut seen, INACTIVE) {
         return false;
     }
     if all_met(&seen) {} else {

@@ -12,10 +12,11 @@ use borrow.Author.Tests.{eq-eqb}
 use Rattle.entry_tree.specs.Pairs.{is_entry, on_subject, has_subject, place_of}
 use Rattle.entry_tree.specs.Places as tree
 use Rattle.entry_tree.specs.Places.{size, entry_at, subject_at}
-use Rattle.entry_tree.specs.Inner.{position}
+use Rattle.std.specs.Prelude.{Some, position}
 use Rattle.entry_tree.proofs.Reading.{read_length, read_at, read-place-subject}
 use Rattle.entry_tree.proofs.Count.{same, diff, compare_eq, true-any}
-use Rattle.entry_tree.proofs.Finding.{count_at, entry_place}
+use Rattle.entry_tree.proofs.Lists.{count_at}
+use Rattle.entry_tree.proofs.Finding.{entry_place}
 use Rattle.regular.specs.Bytes.{active_part, inactive_part, whole_b}
 use Rattle.regular_activation.specs.Inner.{StartsAt, Starts}
 use Rattle.regular_change.proofs.Looks.{known}
@@ -74,11 +75,11 @@ noting_more s start first last i w h b x qx g cg e v qe small f =
               let p = f (omega arith) in
               let vg : get_or (set start e v) k 0 ≡ g = set-v ∙ p.0 in
               let ke : k ≡ entry_at t i = z ∙ qe in
-              let place : i ≡ position (is_entry (entry_at t i)) (tree.read t) = entry_place t i b (omega (arith, (known s w).facts.once (entry_at t i))) in
+              let place : position (is_entry (entry_at t i)) (tree.read t) ≡ Some i = entry_place t i b (omega (arith, (known s w).facts.once (entry_at t i))) in
               subst (λ (n : ℕ). StartsAt s k n) (sym vg)
               (record {
                 inside = omega arith;
-                subject = ap (λ (n : ℕ). (place_of n (tree.read t)).subject) ke ∙ read-place-subject t (entry_at t i) i place b ∙ sym qg;
+                subject = ap (λ (n : ℕ). (place_of n (tree.read t)).subject) ke ∙ read-place-subject t (entry_at t i) i place ∙ sym qg;
                 active = ap (λ (n : ℕ). has_subject n (tree.read (active_part s))) (qg ∙ sym qx) ∙ p.1;
               }))
           | no z ↦

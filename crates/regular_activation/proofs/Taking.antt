@@ -18,6 +18,7 @@ use Rattle.multi_cycle_list.proofs.Changes.{front_in}
 use Rattle.entry_tree.specs.Pairs.{Pair, in_order}
 use Rattle.entry_tree.specs.Places as tree
 use Rattle.entry_tree.specs.Places.{subject_at}
+use Rattle.entry_tree.specs.Inner.{IsTree}
 use Rattle.entry_merge.specs.Inner.{kept, stays, filled, merged}
 use Rattle.entry_tree.proofs.Lists.{none}
 use Rattle.entry_tree.proofs.Reading.{read_length, read_at}
@@ -111,11 +112,8 @@ module _ (b : List ℕ) (y : Bytes b) (h : whole_b b ≡ true) where
     pub front-small : (e : ℕ) → front ≡ Some e → e < 128
     front-small e q = omega (arith, front_in (queue_part s) 1 queue-whole.whole (omega (arith, queue-whole.classes)) e (front-then e q), queue-whole.entries)
 
-    pub tree_long : length (inactive_part s) ≡ 385
-    tree_long = ap length k.parts.inactive ∙ (known b h).inactive-long
-
-    pub tree_few : tree.size (inactive_part s) ≤ 128
-    tree_few = omega (arith, ap tree.size k.parts.inactive, (known b h).inactive-few)
+    pub tree_then : IsTree (inactive_part s)
+    tree_then = subst IsTree (sym k.parts.inactive) (known b h).inactive
 
     module _ (e : ℕ) (qe : front ≡ Some e) (start : List ℕ) (st : Starts b start) (j : ℕ) (small : j < 128)
         (fits : (get_or start e 0 < 128) × Free (inactive_part s) slots j (subject_at (inactive_part s) (get_or start e 0)))
@@ -248,7 +246,7 @@ module _ (b : List ℕ) (y : Bytes b) (h : whole_b b ≡ true) (s slots gone : L
       )
 
   pub few-then : tree.size (inactive_part s) ≤ 128
-  few-then = omega (arith, ap tree.size k.parts.inactive, (known b h).inactive-few)
+  few-then = omega (arith, ap tree.size k.parts.inactive, (known b h).inactive.few)
 
   pub order-a-then : in_order 0 (tree.read (active_part s)) ≡ true
   order-a-then = ap (λ (t : List ℕ). in_order 0 (tree.read t)) k.parts.active ∙ (known b h).conditions.order-a

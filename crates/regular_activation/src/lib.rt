@@ -6,6 +6,7 @@ ghost use Rattle.std.specs.Prelude.{◌≡◌, true, false, cond, [], ◌+◌, �
 ghost use Rattle.entry_tree.specs.Pairs.{has_subject, in_order};
 ghost use Rattle.entry_tree.specs.Places as tree;
 ghost use Rattle.entry_tree.specs.Places.{size, subject_at};
+ghost use Rattle.entry_tree.specs.Inner.{IsTree};
 ghost use Rattle.entry_merge.specs.Inner.{kept, stays, filled, merged};
 ghost use Rattle.regular.specs.Bytes.{active_part, inactive_part, queue_part, whole_b, read};
 ghost use Rattle.regular_activation.specs.Inner.{Activated, Starts, Free, Consists, Taken};
@@ -30,7 +31,7 @@ fn group_start(first: usize, i: usize, last: u16, x: u16) -> usize
 // The first place from `from` on that is not below the subject x, or the number of pairs. That it is the first makes the search short, and
 // nothing rests on it.
 fn skip_below(t: &[u8], from: usize, x: u16) -> usize
-    requires { (length t.now ≡ 385) × (size t.now ≤ 128) }
+    requires { IsTree t.now }
 {
     let n = len(t);
     let mut j = from;
@@ -45,7 +46,7 @@ fn skip_below(t: &[u8], from: usize, x: u16) -> usize
 
 // `first`, if the place `at` is on the subject x, else 255.
 fn start_if_on(t: &[u8], at: usize, x: u16, first: usize) -> u8
-    requires { ((length t.now ≡ 385) × (size t.now ≤ 128)) × (first < 128) }
+    requires { IsTree t.now × (first < 128) }
     ensures { result < 128 → (result ≡ first) × (has_subject x (tree.read t.now) ≡ true) }
 {
     if len(t) <= at {
@@ -83,7 +84,7 @@ fn note_starts(s: &[u8], start: &mut [u8])
 
 // Whether the place j is on the subject of the place g, and is the next there that no entry fills.
 fn fits(t: &[u8], slots: &[u8], j: usize, g: usize) -> bool
-    requires { ((length t.now ≡ 385) × (size t.now ≤ 128)) × ((length slots.now ≡ 128) × (g < 128)) }
+    requires { IsTree t.now × ((length slots.now ≡ 128) × (g < 128)) }
     ensures { result ≡ true → Free t.now slots.now j (subject_at t.now g) }
 {
     if len(t) <= j {
@@ -119,7 +120,7 @@ fn later(a: u8, b: u8) -> u8 {
 // The place for the entry e among those noted, or 128 if it has none. `next` has for the first place of a subject the place after the last
 // one filled, or a lower one.
 fn slot_for(t: &[u8], start: &[u8], next: &[u8], slots: &[u8], e: u8) -> usize
-    requires { ((length t.now ≡ 385) × (size t.now ≤ 128)) × ((length start.now ≡ 256) × ((length next.now ≡ 128) × (length slots.now ≡ 128))) }
+    requires { IsTree t.now × ((length start.now ≡ 256) × ((length next.now ≡ 128) × (length slots.now ≡ 128))) }
     ensures { result < 128 → (get_or start.now e 0 < 128) × Free t.now slots.now result (subject_at t.now (get_or start.now e 0)) }
 {
     let g = start[e as usize];

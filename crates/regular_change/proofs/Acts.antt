@@ -3,7 +3,7 @@ use Prim.Native.Nat.{ℕ, suc, ◌+◌, ◌-◌, ◌/◌, ◌%◌, ◌<◌, ◌�
 use mathlib.Core.Path.{◌≡◌, refl, sym, ap, ◌∙◌, subst}
 use mathlib.Core.Logic.{◌≢◌}
 use mathlib.Core.List.{List, [], ◌∷◌, ◌++◌}
-use Rattle.std.specs.Prelude.{Option, None}
+use Rattle.std.specs.Prelude.{Option, None, Some, position}
 use mathlib.Core.Bool.{Bool, true, false, not, cond, ◌||◌}
 use native.Mathlib.Omega.{arith}
 use native.Mathlib.Decide.{ℕ_discrete}
@@ -26,7 +26,7 @@ use Rattle.multi_cycle_list.proofs.Laid as queues
 use Rattle.multi_cycle_list.proofs.Changes.{remove-valid}
 use Rattle.entry_tree.specs.Pairs.{Pair, pair, count, is_entry, has_entry, has_subject, inserted, place_of, Place, past}
 use Rattle.entry_tree.specs.Places as tree
-use Rattle.entry_tree.specs.Inner.{position, removed_at, with_walk_past}
+use Rattle.entry_tree.specs.Inner.{IsTree, removed_at, with_walk_past}
 use Rattle.entry_tree.proofs.Laid as trees
 use Rattle.entry_tree.proofs.Changes.{removed-length, inserted-length}
 use Rattle.entry_tree.proofs.Reading.{read_length, read-place-subject}
@@ -239,6 +239,12 @@ module _ (b : List ℕ) (y : Bytes b) (h : whole_b b ≡ true) where
   pub few-inactive : tree.size I ≤ 128
   few-inactive = (sizes_of b (parts b h).sizes).inactive
 
+  pub tree-active : IsTree A
+  tree-active = record { len = long-active; few = few-active }
+
+  pub tree-inactive : IsTree I
+  tree-inactive = record { len = long-inactive; few = few-inactive }
+
   own-queue : Queue Q
   own-queue = record { whole = whole-queue; classes = classes-two; entries = entries-all }
 
@@ -298,20 +304,14 @@ module _ (b : List ℕ) (y : Bytes b) (h : whole_b b ≡ true) where
         let j4 = set-tail (set s2 1032 (n % 256)) A p q (set T 0 (n % 256)) j3 1 (n / 256) (omega arith) in
         laid_from (waits e x n m) b j4 (active-self b y h) refl is refl refl (flag-self b y h) (walk-self b y h)
 
-  -- ---- an entry's place
-
-  -- the place of an entry that a tree has
-  placed_in : (t : List ℕ) (e i : ℕ) → i ≡ position (is_entry e) (tree.read t) → has_entry e (tree.read t) ≡ true → i < tree.size t
-  placed_in t e i q k = omega (arith, place_in t (is_entry e) k)
-
   -- ---- an inactive entry leaves
 
-  module _ (e i : ℕ) (at : i ≡ position (is_entry e) m.inactive) (in-i : has_entry e m.inactive ≡ true) where
+  module _ (e i : ℕ) (at : position (is_entry e) m.inactive ≡ Some i) (in-i : has_entry e m.inactive ≡ true) where
     one-i : 0 < count (is_entry e) m.inactive
     one-i = any_some e m.inactive in-i
 
     pub place-inactive : i < tree.size I
-    place-inactive = placed_in I e i at in-i
+    place-inactive = place_in I (is_entry e) i at
 
     pub inactive-entry : e < 128
     inactive-entry = omega (arith, F.entries e (omega (arith, one-i)))
@@ -341,7 +341,7 @@ module _ (b : List ℕ) (y : Bytes b) (h : whole_b b ≡ true) where
         let is : q ≡ lists_laid.laid (queue_of (leaves_inactive e m)) = ap (λ (z : List ℕ). lists_laid.laid (without_entry e (nodes.read z))) (queue-is s1 A p Q T j1) ∙ ap (λ (z : Lists). lists_laid.laid z) unqueued in
         let j2 = put-queue s1 A p Q T j1 q (ap length is ∙ queues.out-length 2 128 (lists_laid.arcs 2 0 (m.clean_up ∷ (lists.without e m.activation ∷ [])))) in
         laid_from (leaves_inactive e m) b j2 (active-self b y h)
-        (ap (λ (l : List Pair). tree.laid l I) (removed-is I e i at place-inactive (omega (arith, F.once e)))) is (low-self b y h) (high-self b y h) (flag-self b y h) (walk-self b y h)
+        (ap (λ (l : List Pair). tree.laid l I) (removed-is I e i at (omega (arith, F.once e)))) is (low-self b y h) (high-self b y h) (flag-self b y h) (walk-self b y h)
 
   -- ---- the clean-up queue's front
 
@@ -356,19 +356,19 @@ module _ (b : List ℕ) (y : Bytes b) (h : whole_b b ≡ true) where
     front-entry = omega (arith, F.entries e (omega (arith, F.marked e, front-count)))
 
     -- what the step says, from the front's place i
-    module _ (i : ℕ) (at : i ≡ position (is_entry e) m.active) where
+    module _ (i : ℕ) (at : position (is_entry e) m.active ≡ Some i) where
       pub front-place : i < tree.size A
-      front-place = placed_in A e i at front-active
+      front-place = place_in A (is_entry e) i at
 
       front-subject : (place_of e m.active).subject ≡ tree.subject_at A i
-      front-subject = read-place-subject A e i at front-place
+      front-subject = read-place-subject A e i at
 
       pub front_above : 0 < tree.subject_at A i
       front_above = omega (arith, (mark-range m F e ms front).0, front-subject)
 
       pub front-says : (a x : ℕ) → a ≡ from_at A i → x ≡ tree.subject_at A i → pops.RemoveSubjectRange a (x - 1) ≡ (inner_step m).says
       front-says a x qa qx =
-          ap (λ (k : ℕ). pops.RemoveSubjectRange k (x - 1)) (qa ∙ sym (place-from-at A e i at front-place))
+          ap (λ (k : ℕ). pops.RemoveSubjectRange k (x - 1)) (qa ∙ sym (place-from-at A e i at))
           ∙ ap (λ (k : ℕ). pops.RemoveSubjectRange (place_of e m.active).from (k - 1)) (qx ∙ sym front-subject)
           ∙ sym (ap (λ (z : Step). z.says) (step-front m e ms front))
 
@@ -407,15 +407,15 @@ module _ (b : List ℕ) (y : Bytes b) (h : whole_b b ≡ true) where
 
   -- ---- the activation queue's front
 
-  module _ (e i : ℕ) (qs : List ℕ) (front : m.activation ≡ e ∷ qs) (at : i ≡ position (is_entry e) m.inactive) where
+  pub next-inactive : (e : ℕ) (qs : List ℕ) → m.activation ≡ e ∷ qs → has_entry e m.inactive ≡ true
+  next-inactive e qs front = lt-ltb 0 (count (is_entry e) m.inactive) (omega (arith, F.waits e, ap (lists.count e) front, count_same e e qs refl))
+
+  module _ (e i : ℕ) (qs : List ℕ) (front : m.activation ≡ e ∷ qs) (at : position (is_entry e) m.inactive ≡ Some i) where
     next-count : lists.count e m.activation ≡ suc (lists.count e qs)
     next-count = ap (lists.count e) front ∙ count_same e e qs refl
 
-    pub next-inactive : has_entry e m.inactive ≡ true
-    next-inactive = lt-ltb 0 (count (is_entry e) m.inactive) (omega (arith, F.waits e, next-count))
-
     pub next_place : i < tree.size I
-    next_place = placed_in I e i at next-inactive
+    next_place = place_in I (is_entry e) i at
 
     pub next-entry : e < 128
     next-entry = omega (arith, F.entries e (omega (arith, F.waits e, next-count)))
@@ -433,10 +433,10 @@ module _ (b : List ℕ) (y : Bytes b) (h : whole_b b ≡ true) where
     gone-length = omega (arith, removed-length i (tree.read I) (omega (arith, read_length I, next_place)), read_length I, few-inactive)
 
     next-subject : (place_of e m.inactive).subject ≡ tree.subject_at I i
-    next-subject = read-place-subject I e i at next_place
+    next-subject = read-place-subject I e i at
 
     pub next-whole : (p : List ℕ) → p ≡ tree.laid (removed_at i (tree.read I)) I → Queue (queue_part (put_mid 385 385 b p))
-    next-whole p q = whole-leaves e i at next-inactive p q
+    next-whole p q = whole-leaves e i at (next-inactive e qs front) p q
 
     -- where the pair joins
     pub next-joins : m.clean_up ≡ [] → (p q : List ℕ) → p ≡ tree.laid (removed_at i (tree.read I)) I → q ≡ lists_laid.laid (without_entry e (nodes.read (queue_part (put_mid 385 385 b p))))
@@ -477,7 +477,7 @@ module _ (b : List ℕ) (y : Bytes b) (h : whole_b b ≡ true) where
         let ia : a ≡ tree.laid (inserted (pair e x) m.active) A = ap (λ (z : List ℕ). tree.laid (inserted (pair e x) (tree.read z)) z) (active-is s2 A p q T j2) in
         let j3 = put-active s2 A p q T j2 a (ap length ia ∙ trees.length-laid A long-active (inserted (pair e x) m.active) (omega (arith, inserted-length (pair e x) m.active, read_length A, next-room))) in
         laid_from (becomes_active e x qs m) b j3 ia
-        (ap (λ (l : List Pair). tree.laid l I) (removed-is I e i at next_place (omega (arith, F.once e)))) is (low-self b y h) (high-self b y h) (flag-self b y h) (walk-self b y h)
+        (ap (λ (l : List Pair). tree.laid l I) (removed-is I e i at (omega (arith, F.once e)))) is (low-self b y h) (high-self b y h) (flag-self b y h) (walk-self b y h)
 
   -- ---- the gap that an active entry leaves
 
@@ -573,7 +573,7 @@ module _ (b : List ℕ) (y : Bytes b) (h : whole_b b ≡ true) where
 
     -- ---- and it leaves
 
-    module _ (i : ℕ) (at : i ≡ position (is_entry e) m.active) (g : Gaps) where
+    module _ (i : ℕ) (at : position (is_entry e) m.active ≡ Some i) (g : Gaps) where
       abbrev c1 : Registry
       c1 = with_clean_up g.clean_up g.last_gap m
 
@@ -581,7 +581,7 @@ module _ (b : List ℕ) (y : Bytes b) (h : whole_b b ≡ true) where
       p = place_of e m.active
 
       pub place-active : i < tree.size A
-      place-active = placed_in A e i at in_a
+      place-active = place_in A (is_entry e) i at
 
       less : length (removed_at i (tree.read A)) ≤ 128
       less = omega (arith, removed-length i (tree.read A) (omega (arith, read_length A, place-active)), read_length A, few-active)
@@ -608,7 +608,7 @@ module _ (b : List ℕ) (y : Bytes b) (h : whole_b b ≡ true) where
             byte = walk_over w (get_or sc 1035 0);
             joined = subst (λ (z : List ℕ). Joined z (tree.laid m.active A) (tree.laid m.inactive I) (lists_laid.laid (queue_of c1)) (m.slots % 256 ∷ (m.slots / 256 ∷ (flag_over g.last_gap (get_or b 1034 0) ∷ (walk_over w (get_or sc 1035 0) ∷ [])))))
                 (walk-past 1035 sc e w q) (set-tail sc (tree.laid m.active A) (tree.laid m.inactive I) (lists_laid.laid (queue_of c1)) (tail_laid c1 b) Jc 3 (walk_over w (get_or sc 1035 0)) (omega arith));
-            is = ap (walk_over w) byte-is ∙ ap (λ (o : Option ℕ). walk_over o (get_or b 1035 0)) (wq ∙ sym (place-next A e i at place-active) ∙ sym (past-here (get_or b 1035 0) e (goes_on p) (sym byte-is ∙ q) active-entry));
+            is = ap (walk_over w) byte-is ∙ ap (λ (o : Option ℕ). walk_over o (get_or b 1035 0)) (wq ∙ sym (place-next A e i at) ∙ sym (past-here (get_or b 1035 0) e (goes_on p) (sym byte-is ∙ q) active-entry));
           }
           | no q ↦ record {
             byte = walk_over m.walk (get_or b 1035 0);
@@ -643,5 +643,5 @@ module _ (b : List ℕ) (y : Bytes b) (h : whole_b b ≡ true) where
             let is : t ≡ tree.laid (removed_at i m.active) A = ap (λ (z : List ℕ). tree.laid (removed_at i (tree.read z)) z) active-then in
             let j3 = put-active (with_slots s n) A' I' Q' (set (set T0 0 (n % 256)) 1 (n / 256)) j2 t (ap length is ∙ trees.length-laid A long-active (removed_at i m.active) less) in
             laid_from (leaves e p g m) b j3
-            (is ∙ ap (λ (l : List Pair). tree.laid l A) (removed-is A e i at place-active (omega (arith, F.once e))))
+            (is ∙ ap (λ (l : List Pair). tree.laid l A) (removed-is A e i at (omega (arith, F.once e))))
             refl refl (ap (λ (k : ℕ). k % 256) nq) (ap (λ (k : ℕ). k / 256) nq) refl vq

@@ -8,21 +8,21 @@ use native.Mathlib.Omega.{arith}
 use lib.Dec.{leb, ltb}
 use lib.ListN.{length, drop}
 use borrow.Author.Tests.{lt-ltb, le-ltb, le-leb, lt-leb, eq-eqb, ne_eqb}
+use Rattle.std.specs.Prelude.{Some, position}
 use Rattle.multi_cycle_list.specs.Lists as lists
 use Rattle.multi_cycle_list.specs.Lists.{first}
-use Rattle.std.specs.Prelude.{Some}
 use Rattle.multi_cycle_list.specs.Nodes as nodes
 use Rattle.entry_tree.specs.Pairs.{Pair, Place, is_entry, has_entry, place_of}
 use Rattle.entry_tree.specs.Places as tree
 use Rattle.entry_tree.specs.Places.{size, entry_at, subject_at, pair_at}
-use Rattle.entry_tree.specs.Inner.{position}
+use Rattle.entry_tree.specs.Inner.{IsTree}
 use Rattle.entry_tree.proofs.Reading.{read_at, read-place-subject, read-place-first, read-place-from}
 use Rattle.entry_tree.proofs.Changes.{range_at}
 use Rattle.entry_tree.proofs.Finding.{place-rest-at, drop_end, drop-next, entry_place, entry-counts}
 use Rattle.regular.specs.Registry.{queued}
 use Rattle.regular.specs.Steps.{new_mark}
 use Rattle.regular.specs.Bytes.{active_part, inactive_part, queue_part, read, whole_b}
-use Rattle.regular.proofs.Grounds.{sizes_of, two-counts}
+use Rattle.regular.proofs.Grounds.{sizes_of, active-tree, inactive-tree, two-counts}
 use Rattle.regular.proofs.Parts as parts
 use Rattle.regular.proofs.Testing.{Conditions, conditions}
 use Rattle.entry_tree.proofs.Count.{same, diff, compare_eq, any-true, true-any}
@@ -47,15 +47,15 @@ module _ (t : List ℕ) where
 place-gap : (e : ℕ) (p : Place) (marks : List ℕ) (from x : ℕ) (l : List Pair) → p.from ≡ from → p.subject ≡ x → p.rest ≡ l → gap_of e p marks ≡ cond (leb from x) (gap_before e x l marks) Same
 place-gap e p marks from x l a b c = rw (a, b, c) refl
 
-module _ (t : List ℕ) (e i : ℕ) (q : i ≡ position (is_entry e) (tree.read t)) (h : i < size t) where
+module _ (t : List ℕ) (e i : ℕ) (q : position (is_entry e) (tree.read t) ≡ Some i) where
   pub place-from-at : (place_of e (tree.read t)).from ≡ from_at t i
   place-from-at = elim (compare_eq i 0) [
-    | same z b ↦ rw b (read-place-first t e i q h z)
-    | diff z b ↦ rw b (read-place-from t e i q h (omega arith))
+    | same z b ↦ rw b (read-place-first t e i q z)
+    | diff z b ↦ rw b (read-place-from t e i q (omega arith))
   ]
 
   gap_is : (marks : List ℕ) → gap_of e (place_of e (tree.read t)) marks ≡ cond (leb (from_at t i) (subject_at t i)) (gap_before e (subject_at t i) (drop (suc i) (tree.read t)) marks) Same
-  gap_is marks = place-gap e (place_of e (tree.read t)) marks (from_at t i) (subject_at t i) (drop (suc i) (tree.read t)) place-from-at (read-place-subject t e i q h) (place-rest-at t e i q h)
+  gap_is marks = place-gap e (place_of e (tree.read t)) marks (from_at t i) (subject_at t i) (drop (suc i) (tree.read t)) place-from-at (read-place-subject t e i q) (place-rest-at t e i q)
 
   module _ (marks : List ℕ) (x from : ℕ) (a : x ≡ subject_at t i) (b : from ≡ from_at t i) where
     pub gap_same : x < from → Same ≡ gap_of e (place_of e (tree.read t)) marks
@@ -115,10 +115,8 @@ module _ (t marks : List ℕ) (i j : ℕ) (z : j ≡ suc i) (h : j < size t) (e 
 
 pub record Known (s : List ℕ) : Type 0 where
   pub long : length s ≡ 1036
-  pub active-long : length (active_part s) ≡ 385
-  pub active-few : size (active_part s) ≤ 128
-  pub inactive-long : length (inactive_part s) ≡ 385
-  pub inactive-few : size (inactive_part s) ≤ 128
+  pub active : IsTree (active_part s)
+  pub inactive : IsTree (inactive_part s)
   pub queue_long : length (queue_part s) ≡ 262
   pub queue-whole : nodes.whole_b (queue_part s) ≡ true
   pub classes : nodes.classes (queue_part s) ≡ 2
@@ -133,10 +131,8 @@ known s w =
     let j = parts.split s p.bytes in
     record {
       long = p.bytes;
-      active-long = j.long-a;
-      active-few = z.active;
-      inactive-long = j.long-i;
-      inactive-few = z.inactive;
+      active = active-tree s p.bytes p.sizes;
+      inactive = inactive-tree s p.bytes p.sizes;
       queue_long = j.long-q;
       queue-whole = p.queue;
       classes = z.classes;
@@ -145,13 +141,13 @@ known s w =
       facts = reading.read-facts s w;
     }
 
-front-counts : (e : ℕ) (q : List ℕ) → first q ≡ Some e → 0 < lists.count e q
+front-counts : (e : ℕ) (q : List ℕ) → first q ≡ SomeEntry e → 0 < lists.count e q
 front-counts e [] h = absurd (let z : ◌≡◌ {A = ℕ} 0 1 = cc in omega arith)
 front-counts e (x ∷ q) h = let r : x ≡ e = cc in rw (← r) (omega (arith, count-first x q))
 
 module _ (s : List ℕ) (w : whole_b s ≡ true) where
   -- the active entry at a place
-  pub entry-at-place : (i : ℕ) → i < size (active_part s) → i ≡ position (is_entry (entry_at (active_part s) i)) (read s).active
+  pub entry-at-place : (i : ℕ) → i < size (active_part s) → position (is_entry (entry_at (active_part s) i)) (read s).active ≡ Some i
   entry-at-place i h = entry_place (active_part s) i h (omega (arith, (known s w).facts.once (entry_at (active_part s) i)))
 
   pub entry-active : (i : ℕ) → i < size (active_part s) → has_entry (entry_at (active_part s) i) (read s).active ≡ true
@@ -171,5 +167,5 @@ module _ (s : List ℕ) (w : whole_b s ≡ true) where
       ∙ omega (arith, any-true (is_entry e) (read s).active h, (known s w).facts.once e, (known s w).facts.waits e)
 
   -- the fronts of the queues
-  pub front-active : (e : ℕ) → first (read s).clean_up ≡ Some e → has_entry e (read s).active ≡ true
+  pub front-active : (e : ℕ) → first (read s).clean_up ≡ SomeEntry e → has_entry e (read s).active ≡ true
   front-active e h = true-any (is_entry e) (read s).active (omega (arith, (known s w).facts.marked e, front-counts e (read s).clean_up h))

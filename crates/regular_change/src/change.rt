@@ -1,9 +1,8 @@
 // The changes: each leaves the bytes of the changed meaning.
-ghost use Rattle.std.specs.Prelude.{◌≡◌, true, false, [], ◌+◌, ◌<◌, length, replicate};
+ghost use Rattle.std.specs.Prelude.{◌≡◌, true, false, [], ◌+◌, ◌<◌, length, position, replicate, Some};
 ghost use Rattle.multi_cycle_list.specs.Lists.{first};
 ghost use Rattle.entry_tree.specs.Pairs.{is_entry, has_entry, place_of};
 ghost use Rattle.entry_tree.specs.Places.{size, entry_at};
-ghost use Rattle.entry_tree.specs.Inner.{position};
 ghost use Rattle.regular.specs.Registry.{fresh};
 ghost use Rattle.regular.specs.Steps.{waits, joins, leaves_inactive, leaves, gaps, with_clean_up, inner_step};
 ghost use Rattle.regular.specs.Bytes.{active_part, whole_b, read, laid};
@@ -65,7 +64,7 @@ pub fn leave_inactive(s: &mut [u8], entry: u8)
     requires { (whole_b s.old ≡ true) × (has_entry «entry» (read s.old).inactive ≡ true) }
     ensures { s.new ≡ laid (leaves_inactive «entry» (read s.old)) s.old }
 {
-    let i = position(&s[385..770], entry);
+    let i = position(&s[385..770], entry).unwrap();
     remove(&mut s[385..770], i);
     inner_remove(&mut s[770..1032], entry as usize);
 }
@@ -91,7 +90,7 @@ fn close_gap(s: &mut [u8], i: usize, entry: u8, gap: Gap)
 
 // The active entry at the place i leaves; n slots are left.
 pub fn leave_active(s: &mut [u8], entry: u8, i: usize, gap: Gap, n: usize)
-    requires { (whole_b s.old ≡ true) × (((i ≡ position (is_entry «entry») (read s.old).active) × (has_entry «entry» (read s.old).active ≡ true)) × ((gap ≡ gap_of «entry» (place_of «entry» (read s.old).active) (read s.old).clean_up) × ((n ≡ (read s.old).slots + more gap) × (n < 65536)))) }
+    requires { (whole_b s.old ≡ true) × ((position (is_entry «entry») (read s.old).active ≡ Some i) × ((gap ≡ gap_of «entry» (place_of «entry» (read s.old).active) (read s.old).clean_up) × ((n ≡ (read s.old).slots + more gap) × (n < 65536)))) }
     ensures { s.new ≡ laid (leaves «entry» (place_of «entry» (read s.old).active) (gaps «entry» (place_of «entry» (read s.old).active) (read s.old).clean_up (read s.old).last_gap) (read s.old)) s.old }
 {
     let w = next_on(&s[0..385], i);
@@ -108,7 +107,7 @@ pub fn pop_clean_up_queue(s: &mut [u8], entry: u8) -> Popped
     requires { (whole_b s.old ≡ true) × (first (read s.old).clean_up ≡ Some «entry») }
     ensures { (result ≡ (inner_step (read s.old)).says) × (s.new ≡ laid (inner_step (read s.old)).then s.old) }
 {
-    let i = position(&s[0..385], entry);
+    let i = position(&s[0..385], entry).unwrap();
     let first = from_at(&s[0..385], i);
     let last = subject_at(&s[0..385], i) - 1;
     inner_remove(&mut s[770..1032], entry as usize);
@@ -129,7 +128,7 @@ pub fn pop_registration_queue(s: &mut [u8], entry: u8) -> Popped
     requires { (whole_b s.old ≡ true) × (((read s.old).clean_up ≡ []) × (((read s.old).last_gap ≡ false) × (first (read s.old).activation ≡ Some «entry»))) }
     ensures { (result ≡ (inner_step (read s.old)).says) × (s.new ≡ laid (inner_step (read s.old)).then s.old) }
 {
-    let i = position(&s[385..770], entry);
+    let i = position(&s[385..770], entry).unwrap();
     let x = subject_at(&s[385..770], i);
     let known = on_active(s, x);
     remove(&mut s[385..770], i);

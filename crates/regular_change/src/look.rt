@@ -1,7 +1,8 @@
 // What is asked of whole bytes.
-ghost use Rattle.std.specs.Prelude.{◌≡◌, true, suc, ◌-◌, ◌<◌, ◌≤◌, length, drop};
+ghost use Rattle.std.specs.Prelude.{◌≡◌, true, suc, ◌-◌, ◌<◌, ◌≤◌, drop};
 ghost use Rattle.entry_tree.specs.Pairs.{has_entry, has_subject, place_of};
 ghost use Rattle.entry_tree.specs.Places.{size, entry_at, subject_at};
+ghost use Rattle.entry_tree.specs.Inner.{IsTree};
 ghost use Rattle.regular.specs.Registry.{queued};
 ghost use Rattle.regular.specs.Bytes.{active_part, whole_b, read};
 ghost use Rattle.regular_change.specs.Inner.{from_at, gap_before, gap_of};
@@ -64,7 +65,7 @@ pub fn is_marked(s: &[u8], entry: u8) -> bool
 
 // The first subject past the pair before the place i.
 pub fn from_at(t: &[u8], i: usize) -> u16
-    requires { (length t.now ≡ 385) × ((size t.now ≤ 128) × ((i < size t.now) × (subject_at t.now (i - 1) ≤ 8191))) }
+    requires { IsTree t.now × ((i < size t.now) × (subject_at t.now (i - 1) ≤ 8191)) }
     ensures { result ≡ from_at t.now i }
 {
     if i == 0 {

@@ -11,8 +11,8 @@ use borrow.Author.Tests.{lt-ltb, le-ltb, eq-eqb, ne_eqb}
 use Rattle.state.specs.Result.{Result, refuse, done, answer}
 use Rattle.state.proofs.Calls.{Ends, not-whole, is_whole, refused, laid_out}
 use Rattle.entry_tree.specs.Pairs.{Place, is_entry, has_entry, has_subject, place_of}
-use Rattle.entry_tree.specs.Places.{size, entry_at}
-use Rattle.entry_tree.specs.Inner.{position}
+use Rattle.entry_tree.specs.Places.{entry_at}
+use Rattle.std.specs.Prelude.{Some, position}
 use Rattle.entry_tree.proofs.Reading.{read-place-entry}
 use Rattle.regular.specs.Registry.{Registry, fresh}
 use Rattle.regular.specs.Bytes.{active_part, whole_b, read, laid}
@@ -21,7 +21,6 @@ use Rattle.regular.specs.Calls.{on, opening, opened_bytes}
 use Rattle.regular.specs.declared.Answer.{Answer}
 use Rattle.regular.specs.declared.Answer.TheVariants.{Refused, Done, Accepted}
 use Rattle.regular_change.proofs.Acts.{gaps_are, more-is}
-use Rattle.entry_tree.proofs.Finding.{place_in}
 use Rattle.regular_change.specs.Inner.{gap_of, more}
 use Rattle.regular_change.specs.declared.look.Gap.{Gap}
 
@@ -162,13 +161,10 @@ module _ (e : ℕ) (m : Registry) where
               room z b = rw (le-ltb 65535 z b)
 
 -- the active entry e at the place i, with the gap that the code found there; it gives back k slots, so there are n
-module _ (s : List ℕ) (e : ℕ) (ha : has_entry e (read s).active ≡ true) (i : ℕ) (qi : i ≡ position (is_entry e) (read s).active) where
-  pub place-active : i < size (active_part s)
-  place-active = omega (arith, place_in (active_part s) (is_entry e) ha)
-
+module _ (s : List ℕ) (e : ℕ) (ha : has_entry e (read s).active ≡ true) (i : ℕ) (qi : position (is_entry e) (read s).active ≡ Some i) where
   module _ (g : Gap) (qg : g ≡ gap_of (entry_at (active_part s) i) (place_of (entry_at (active_part s) i) (read s).active) (read s).clean_up) where
     pub gap-found : g ≡ gap_of e (place_of e (read s).active) (read s).clean_up
-    gap-found = qg ∙ ap (λ (v : ℕ). gap_of v (place_of v (read s).active) (read s).clean_up) (read-place-entry (active_part s) e i qi place-active)
+    gap-found = qg ∙ ap (λ (v : ℕ). gap_of v (place_of v (read s).active) (read s).clean_up) (read-place-entry (active_part s) e i qi)
 
     module _ (he : e ≤ 127) (ni : has_entry e (read s).inactive ≡ false) (k n : ℕ) (qk : k ≡ more g) (qn : n ≡ (read s).slots + k) where
       counted : k ≡ (G e (read s)).more

@@ -3,7 +3,7 @@ use Prim.Native.Nat.{ℕ, ◌<◌, ◌≤◌}
 use mathlib.Core.Path.{◌≡◌, refl, sym, ap, ◌∙◌}
 use mathlib.Core.Logic.{◌≢◌}
 use mathlib.Core.List.{List}
-use Rattle.std.specs.Prelude.{Option, Some, is_some}
+use Rattle.std.specs.Prelude.{Option, None, Some, is_some, position}
 use mathlib.Core.Bool.{Bool, true, false}
 use native.Mathlib.Omega.{arith}
 use lib.ListN.{length, get_or, replicate}
@@ -11,12 +11,10 @@ use borrow.Author.Tests.{lt-ltb, le-ltb, eq-eqb, ne_eqb}
 use Rattle.state.specs.Result.{Result, answer, Bytes}
 use Rattle.state.proofs.Calls.{Ends, refused, laid_out}
 use Rattle.entry_tree.specs.Pairs.{is_entry, has_entry, place_of}
-use Rattle.entry_tree.specs.Inner.{position}
-use Rattle.entry_tree.specs.Places as tree
 use Rattle.entry_tree.specs.Walks.{first_on}
 use Rattle.entry_tree.specs.Inner as inner
 use Rattle.entry_tree.proofs.Count.{true-any}
-use Rattle.entry_tree.proofs.Finding.{found-is, place_in}
+use Rattle.entry_tree.proofs.Lists.{has-placed, not-placed}
 use Rattle.entry_tree.proofs.Walking.{walk_at_lem, walk_nowhere}
 use Rattle.loop_back.specs.Registry.{Registry, fresh}
 use Rattle.loop_back.specs.Bytes.{tree_part, whole_b, read, laid}
@@ -82,15 +80,14 @@ module _ (s : List ℕ) (h : whole_b s ≡ true) where
     unfolding unregister
     unregister-entry b = refused whole_b read laid (Refused 1) (unregister e) s h (Refused 2) (rw (lt-ltb 127 e b))
 
-    -- the code's place i of the entry, and its number n of pairs
-    module _ (he : e ≤ 127) (i n : ℕ) (qi : i ≡ position (is_entry e) m.entries) (qn : n ≡ tree.size T) where
-      pub unregister-none : n ≤ i → Comes (unregister e) (Refused 8) s
+    module _ (he : e ≤ 127) where
+      pub unregister-none : position (is_entry e) m.entries ≡ None → Comes (unregister e) (Refused 8) s
       unfolding unregister
-      unregister-none b = refused whole_b read laid (Refused 1) (unregister e) s h (Refused 8) (rw (le-ltb 127 e he, sym (found-is T (is_entry e) i n qi qn) ∙ le-ltb i n b))
+      unregister-none q = refused whole_b read laid (Refused 1) (unregister e) s h (Refused 8) (rw (le-ltb 127 e he, not-placed (is_entry e) m.entries q))
 
-      pub unregistered : i < n → (t : List ℕ) → t ≡ laid (leaves e m) s → Comes (unregister e) Done t
+      pub unregistered : (i : ℕ) → position (is_entry e) m.entries ≡ Some i → (t : List ℕ) → t ≡ laid (leaves e m) s → Comes (unregister e) Done t
       unfolding unregister
-      unregistered b t l = laid_out whole_b read laid (Refused 1) (unregister e) s h Done (leaves e m) t (rw (le-ltb 127 e he, sym (found-is T (is_entry e) i n qi qn) ∙ lt-ltb i n b)) l
+      unregistered i q t l = laid_out whole_b read laid (Refused 1) (unregister e) s h Done (leaves e m) t (rw (le-ltb 127 e he, has-placed (is_entry e) m.entries i q)) l
 
   -- walking
 
@@ -116,8 +113,8 @@ module _ (s : List ℕ) (h : whole_b s ≡ true) where
       pointed : m.walk ≡ Some e
       pointed = walk_at_lem e e refl (omega arith)
 
-      pub pointed-place : (i : ℕ) → i ≡ position (is_entry e) m.entries → i < tree.size T
-      pointed-place i q = omega (arith, place_in T (is_entry e) (true-any (is_entry e) m.entries ((facts_of m (whole_of s h).means).walks e pointed)))
+      pub pointed-there : has_entry e m.entries ≡ true
+      pointed-there = true-any (is_entry e) m.entries ((facts_of m (whole_of s h).means).walks e pointed)
 
       pub pushed : (w : Option ℕ) → w ≡ goes_on (place_of e m.entries) → (r : Bool) → r ≡ is_some w → (t : List ℕ) → t ≡ inner.with_walk 385 s w → Comes hub_push_next (Pushed e r) t
       unfolding hub_push_next

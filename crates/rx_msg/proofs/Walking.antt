@@ -2,14 +2,14 @@
 use Prim.Native.Nat.{ℕ, suc, ◌<◌, ◌≤◌}
 use mathlib.Core.Path.{◌≡◌, refl, sym, ap, ◌∙◌}
 use mathlib.Core.List.{List}
-use Rattle.std.specs.Prelude.{Option, None, Some, is_some}
+use Rattle.std.specs.Prelude.{Option, None, Some, is_some, position}
 use mathlib.Core.Bool.{Bool, true}
 use native.Mathlib.Omega.{arith}
 use lib.ListN.{get_or, drop}
 use borrow.Author.Tests.{lt-ltb, le-ltb}
 use Rattle.state.specs.Result.{refuse, done, Bytes}
 use Rattle.state.proofs.Calls.{Ends}
-use Rattle.entry_tree.specs.Pairs.{is_entry, place_of}
+use Rattle.entry_tree.specs.Pairs.{is_entry, has_entry, place_of}
 use Rattle.entry_tree.specs.Places as tree
 use Rattle.entry_tree.specs.Places.{size, subject_at}
 use Rattle.entry_tree.specs.Walks.{first_on, next_on, walk_over}
@@ -23,9 +23,9 @@ use Rattle.regular.proofs.Parts.{set-tail}
 use Rattle.entry_tree.proofs.Count.{true-any}
 use Rattle.regular_valid.proofs.Reading.{read-facts}
 use Rattle.regular_valid.proofs.Round.{tail_of, split-whole, laid_from, laid_read, active-self, inactive-self, queue-self, low-self, high-self, flag-self}
-use Rattle.entry_tree.specs.Inner.{position, with_walk}
+use Rattle.entry_tree.specs.Inner.{with_walk}
 use Rattle.rx_msg.proofs.Calls.{turned_away, changes}
-use Rattle.entry_tree.proofs.Finding.{place_in, place-next}
+use Rattle.entry_tree.proofs.Finding.{place-next}
 use Rattle.entry_tree.proofs.Walking.{walk_at_lem, walk_nowhere}
 
 -- the walk's byte
@@ -80,12 +80,12 @@ module _ (s : List ℕ) (y : Bytes s) (h : whole_b s ≡ true) (e : ℕ) (qe : e
     pointed : (read s).walk ≡ Some e
     pointed = walk_at_lem (get_or s 1035 0) e (sym qe) (omega arith)
 
-    pub pointed-place : (i : ℕ) → i ≡ position (is_entry e) (tree.read (active_part s)) → i < size (active_part s)
-    pointed-place i q = omega (arith, place_in (active_part s) (is_entry e) (true-any (is_entry e) (tree.read (active_part s)) ((read-facts s h).walks e pointed)))
+    pub pointed-there : has_entry e (tree.read (active_part s)) ≡ true
+    pointed-there = true-any (is_entry e) (tree.read (active_part s)) ((read-facts s h).walks e pointed)
 
-    pub next-pushed : (i : ℕ) → i ≡ position (is_entry e) (tree.read (active_part s)) → (w : Option ℕ) → w ≡ next_on (subject_at (active_part s) i) (drop (suc i) (tree.read (active_part s)))
+    pub next-pushed : (i : ℕ) → position (is_entry e) (tree.read (active_part s)) ≡ Some i → (w : Option ℕ) → w ≡ next_on (subject_at (active_part s) i) (drop (suc i) (tree.read (active_part s)))
         → (r : Bool) → r ≡ is_some w → (t : List ℕ) → t ≡ with_walk 1035 s w → Ends laid s (on hub_push_next s) (Pushed e r) t
     next-pushed i q w v b f t z =
         let A = active_part s in
-        let r : next_on (place_of e (tree.read A)).subject (place_of e (tree.read A)).rest ≡ w = place-next A e i q (pointed-place i q) ∙ sym v in
+        let r : next_on (place_of e (tree.read A)).subject (place_of e (tree.read A)).rest ≡ w = place-next A e i q ∙ sym v in
         changes s h hub_push_next (Pushed e b) (steps.with_walk w (read s)) t (next-is (read s) e w pointed r ∙ ap (λ (k : Bool). done (Pushed e k) (steps.with_walk w (read s))) (sym f)) (z ∙ walk-laid s y h w)

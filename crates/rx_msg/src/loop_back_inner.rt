@@ -6,7 +6,7 @@ ghost use Rattle.loop_back.specs.Steps.{register, unregister, hub_push_start, hu
 ghost use Rattle.loop_back.specs.Calls.{on, bytes, opening, opened_bytes};
 
 use entry_tree::walk::{set_walk, start_on};
-use entry_tree::{has_entry, len, position};
+use entry_tree::{has_entry, position};
 use loop_back::{Answer, join, leave, next_push, open_registry, whole};
 
 pub fn open(s: &mut [u8]) -> Answer
@@ -47,10 +47,9 @@ pub fn unregister(s: &mut [u8], entry: u32) -> Answer
     if 127 < entry {
         return Answer::Refused(2);
     }
-    let i = position(&s[0..385], entry as u8);
-    if len(&s[0..385]) <= i {
+    let Some(i) = position(&s[0..385], entry as u8) else {
         return Answer::Refused(8);
-    }
+    };
     leave(s, entry as u8, i);
     Answer::Done
 }
@@ -79,7 +78,7 @@ pub fn hub_push_next(s: &mut [u8]) -> Answer
     if 127 < e {
         return Answer::NotPushed;
     }
-    let i = position(&s[0..385], e);
+    let i = position(&s[0..385], e).unwrap();
     let w = next_push(&s[0..385], i, e);
     set_walk(s, 385, w);
     Answer::Pushed(e, w.is_some())

@@ -90,7 +90,7 @@ fn unregister_active(s: &mut [u8], entry: u8) -> Answer
     requires { (whole_b s.old ≡ true) × ((entry < 128) × ((has_entry «entry» (read s.old).inactive ≡ false) × (has_entry «entry» (read s.old).active ≡ true))) }
     ensures { (result ≡ answer (unregister «entry» (read s.old))) × (s.new ≡ bytes s.old (unregister «entry» (read s.old))) }
 {
-    let i = position(&s[0..385], entry);
+    let i = position(&s[0..385], entry).unwrap();
     let gap = gap_at(s, i);
     let k = more(gap);
     let n = slots(s) + k;
@@ -199,7 +199,7 @@ pub fn hub_push_next(s: &mut [u8]) -> Answer
     if 127 < e {
         return Answer::NotPushed;
     }
-    let i = position(&s[0..385], e);
+    let i = position(&s[0..385], e).unwrap();
     let w = next_on(&s[0..385], i);
     set_walk(s, 1035, w);
     Answer::Pushed(e, w.is_some())

@@ -3,7 +3,7 @@ use Prim.Native.Nat.{ℕ, ◌<◌, ◌≤◌}
 use mathlib.Core.Path.{◌≡◌, refl, sym, ap, ◌∙◌}
 use mathlib.Core.Logic.{◌≢◌}
 use mathlib.Core.List.{List, []}
-use Rattle.std.specs.Prelude.{Option, None, Some}
+use Rattle.std.specs.Prelude.{Option, None, Some, position}
 use mathlib.Core.Bool.{Bool, true, false, cond}
 use native.Mathlib.Omega.{arith}
 use lib.ListN.{length, replicate, length-replicate, get_or-replicate}
@@ -13,8 +13,9 @@ use Rattle.state.proofs.Calls.{Ends, not-whole, refused, laid_out}
 use Rattle.entry_tree.specs.Pairs.{pair, is_entry, on_subject, has_entry, has_subject, inserted, without, in_order}
 use Rattle.entry_tree.specs.Places.{size, entry_at, read, laid}
 use Rattle.entry_tree.specs.Walks.{first_on}
-use Rattle.entry_tree.specs.Inner.{position, tree_length, removed_at}
-use Rattle.entry_tree.proofs.Finding.{found-is, removed-is}
+use Rattle.entry_tree.specs.Inner.{tree_length, removed_at}
+use Rattle.entry_tree.proofs.Lists.{has-placed, not-placed}
+use Rattle.entry_tree.proofs.Finding.{removed-is}
 use Rattle.state.proofs.Filled.{zero-bytes}
 use Rattle.entry_tree.proofs.Reading.{read_length}
 use Rattle.entry_tree.proofs.Walking.{start-at, start_none}
@@ -102,16 +103,16 @@ module _ (e : ℕ) (s : List ℕ) (h : whole_b s ≡ true) where
   unfolding unregister
   unregister-entry i = turned_away (unregister e) s h (Refused 2) (rw (lt-ltb 127 e i))
 
-  module _ (he : e ≤ 127) (i n : ℕ) (qi : i ≡ position (is_entry e) (read s)) (qn : n ≡ size s) where
-    pub unregister-none : n ≤ i → Removed (Refused 8) s
+  module _ (he : e ≤ 127) where
+    pub unregister-none : position (is_entry e) (read s) ≡ None → Removed (Refused 8) s
     unfolding unregister
-    unregister-none b = turned_away (unregister e) s h (Refused 8) (rw (le-ltb 127 e he, sym (found-is s (is_entry e) i n qi qn) ∙ le-ltb i n b))
+    unregister-none q = turned_away (unregister e) s h (Refused 8) (rw (le-ltb 127 e he, not-placed (is_entry e) (read s) q))
 
-    pub unregister-done : i < n → (t : List ℕ) → t ≡ laid (removed_at i (read s)) s → Removed Done t
+    pub unregister-done : (i : ℕ) → position (is_entry e) (read s) ≡ Some i → (t : List ℕ) → t ≡ laid (removed_at i (read s)) s → Removed Done t
     unfolding unregister
-    unregister-done b t l =
-        changes (unregister e) s h Done (without e (read s)) t (rw (le-ltb 127 e he, sym (found-is s (is_entry e) i n qi qn) ∙ lt-ltb i n b))
-        (l ∙ ap (λ (m : Registry). laid m s) (removed-is s e i qi (omega arith) ((conditions (read s) (known s h).valid).once e)))
+    unregister-done i q t l =
+        changes (unregister e) s h Done (without e (read s)) t (rw (le-ltb 127 e he, has-placed (is_entry e) (read s) i q))
+        (l ∙ ap (λ (m : Registry). laid m s) (removed-is s e i q ((conditions (read s) (known s h).valid).once e)))
 
 -- ---- a frame
 
@@ -127,13 +128,13 @@ module _ (x : ℕ) (loop_back : Bool) (s : List ℕ) (h : whole_b s ≡ true) wh
   pub poll_looped : x ≤ 511 → loop_back ≡ true → NotPushed ≡ answer (on (poll_push x loop_back) s)
   poll_looped hx q = sym (ap (λ (b : Bool). pushed (cond b None (first_on x (read s)))) q) ∙ poll-is hx
 
-  -- the service's place i, of n
-  module _ (hx : x ≤ 511) (q : loop_back ≡ false) (i n : ℕ) (qi : i ≡ position (on_subject x) (read s)) (qn : n ≡ size s) where
+  module _ (hx : x ≤ 511) (q : loop_back ≡ false) where
     poll-first : (o : Option ℕ) → o ≡ first_on x (read s) → pushed o ≡ answer (on (poll_push x loop_back) s)
     poll-first o z = ap pushed z ∙ sym (ap (λ (b : Bool). pushed (cond b None (first_on x (read s)))) q) ∙ poll-is hx
 
-    pub poll-none : n ≤ i → NotPushed ≡ answer (on (poll_push x loop_back) s)
-    poll-none b = poll-first None (start_none s x i qi n qn b)
+    pub poll-none : position (on_subject x) (read s) ≡ None → NotPushed ≡ answer (on (poll_push x loop_back) s)
+    poll-none z = poll-first None (start_none s x z)
 
-    pub poll-at : i < n → (e : ℕ) → e ≡ entry_at s i → Pushed e ≡ answer (on (poll_push x loop_back) s)
-    poll-at b e z = poll-first (Some e) (start-at s x i qi n e qn b z)
+    -- the service's place i
+    pub poll-at : (i : ℕ) → position (on_subject x) (read s) ≡ Some i → (e : ℕ) → e ≡ entry_at s i → Pushed e ≡ answer (on (poll_push x loop_back) s)
+    poll-at i z e w = ap Pushed w ∙ poll-first (Some (entry_at s i)) (start-at s x i z)

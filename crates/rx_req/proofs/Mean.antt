@@ -51,5 +51,5 @@ pub means : RequestsMeans
 means =
     record {
       opened = opened;
-      meaning = means_of whole_b read laid (Refused 1) Valid Sized laid_bytes laid_whole read_laid step (λ b y h. (known b h).valid) (λ b h. (known b h).long) (λ b y h. let k = known b h in tree.laid_read b k.long k.few y) step_valid (λ k m n f z. z);
+      meaning = means_of whole_b read laid (Refused 1) Valid Sized laid_bytes laid_whole read_laid step (λ b y h. (known b h).valid) (λ b h. (known b h).tree.len) (λ b y h. let k = known b h in tree.laid_read b k.tree.len k.tree.few y) step_valid (λ k m n f z. z);
     }

@@ -11,7 +11,7 @@ use Rattle.state.specs.Seq.{all_b}
 use Rattle.state.proofs.Tests.{and_l, and_r}
 use Rattle.entry_tree.specs.Pairs.{in_range, once_b, rising}
 use Rattle.entry_tree.specs.Places.{size, read}
-use Rattle.entry_tree.specs.Inner.{tree_length}
+use Rattle.entry_tree.specs.Inner.{IsTree, tree_length}
 use Rattle.entry_tree.specs.Testing.{pairs_fit_b}
 use Rattle.entry_tree.proofs.Once.{Once, once_of, of_once}
 use Rattle.entry_tree.proofs.Passing.{order-rising}
@@ -52,13 +52,12 @@ module _ (s : List ℕ) where
     unfolding whole_b
     sized h = rw (eq-eqb (length s) tree_length l, le-leb (size s) 128 h)
 
-    pub pairs_test : size s ≤ 128 → pairs_fit_b 511 0 (read s) ≡ whole_b s
+    pub pairs_test : size s ≤ 128 → pairs_fit_b 511 false (read s) ≡ whole_b s
     unfolding pairs_fit_b valid_b whole_b
     pairs_test h = rw (eq-eqb (length s) tree_length l, le-leb (size s) 128 h, order-rising 0 (read s))
 
   pub record Known : Type 0 where
-    pub long : length s ≡ tree_length
-    pub few : size s ≤ 128
+    pub tree : IsTree s
     pub valid : valid_b (read s) ≡ true
 
   pub known : whole_b s ≡ true → Known
@@ -66,7 +65,9 @@ module _ (s : List ℕ) where
   known h =
       let rest = and_r (eqb (length s) tree_length) (leb (size s) 128 && valid_b (read s)) h in
       record {
-        long = eqb-true (length s) tree_length (and_l (eqb (length s) tree_length) (leb (size s) 128 && valid_b (read s)) h);
-        few = leb-true (size s) 128 (and_l (leb (size s) 128) (valid_b (read s)) rest);
+        tree = record {
+          len = eqb-true (length s) tree_length (and_l (eqb (length s) tree_length) (leb (size s) 128 && valid_b (read s)) h);
+          few = leb-true (size s) 128 (and_l (leb (size s) 128) (valid_b (read s)) rest);
+        };
         valid = and_r (leb (size s) 128) (valid_b (read s)) rest;
       }

@@ -10,7 +10,7 @@ ghost use Rattle.rx_req.specs.Calls.{on, bytes, opening, opened_bytes};
 ghost use Rattle.rx_req.specs.Means.{RequestsMeans};
 
 use entry_tree::whole::pairs_fit;
-use entry_tree::{entry_at, first_on, has_entry, has_subject, insert, len, position, remove};
+use entry_tree::{entry_at, first_on, has_entry, has_subject, insert, position, remove};
 use state::fill;
 
 // An answer of a call. `Pushed`: the entry that gets the frame.
@@ -37,7 +37,7 @@ pub fn whole(s: &[u8]) -> bool
         return false;
     }
     let mut seen = [0u8; 256];
-    pairs_fit(s, &mut seen, 511, 0)
+    pairs_fit(s, &mut seen, 511, false)
 }
 
 pub fn open(s: &mut [u8]) -> Answer
@@ -81,10 +81,9 @@ pub fn unregister(s: &mut [u8], entry: u32) -> Answer
     if 127 < entry {
         return Answer::Refused(2);
     }
-    let i = position(s, entry as u8);
-    if len(s) <= i {
+    let Some(i) = position(s, entry as u8) else {
         return Answer::Refused(8);
-    }
+    };
     remove(s, i);
     Answer::Done
 }
@@ -102,9 +101,8 @@ pub fn poll_push(s: &[u8], service: u32, loop_back: bool) -> Answer
     if loop_back {
         return Answer::NotPushed;
     }
-    let i = first_on(s, service as u16);
-    if len(s) <= i {
+    let Some(i) = first_on(s, service as u16) else {
         return Answer::NotPushed;
-    }
+    };
     Answer::Pushed(entry_at(s, i))
 }

@@ -3,7 +3,7 @@ use Prim.Native.Nat.{ℕ, ◌+◌, ◌<◌, ◌≤◌}
 use mathlib.Core.Path.{◌≡◌, refl, sym, ap, ◌∙◌}
 use mathlib.Core.Logic.{◌≢◌}
 use mathlib.Core.List.{List, []}
-use Rattle.std.specs.Prelude.{Option, None, Some}
+use Rattle.std.specs.Prelude.{Option, None, Some, is_some, position}
 use mathlib.Core.Bool.{Bool, true, false}
 use native.Mathlib.Omega.{arith}
 use lib.ListN.{length, take, drop, length-drop, replicate, length-replicate, get_or-replicate}
@@ -16,8 +16,9 @@ use Rattle.state.proofs.Filled.{filled-all, zero-bytes}
 use Rattle.state.proofs.Tests.{not-both}
 use Rattle.entry_tree.specs.Pairs.{Pair, pair, is_entry, has_subject, inserted, without, in_order}
 use Rattle.entry_tree.specs.Places as tree
-use Rattle.entry_tree.specs.Inner.{position, removed_at}
-use Rattle.entry_tree.proofs.Finding.{place_in, removed-is}
+use Rattle.entry_tree.specs.Inner.{IsTree, removed_at}
+use Rattle.entry_tree.proofs.Lists.{placed}
+use Rattle.entry_tree.proofs.Finding.{removed-is}
 use Rattle.entry_tree.proofs.Once as once
 use Rattle.entry_tree.proofs.Once.{rising-order, empty_tree}
 use Rattle.entry_tree.proofs.Reading.{read_length}
@@ -97,6 +98,9 @@ module _ (s : List ℕ) (h : whole_b s ≡ true) where
 
   pub long_tree : length T ≡ 385
   long_tree = J.long-t
+
+  pub is_tree : IsTree T
+  is_tree = record { len = long_tree; few = W.size }
 
   pub long-queue : length Q ≡ 677
   long-queue = J.long-q
@@ -213,11 +217,11 @@ module _ (s : List ℕ) (h : whole_b s ≡ true) where
       unfolding steps.unregister
       unregister-none ho q = sent_back (Refused 8) (rw (le-ltb 127 e he, ho, q))
 
-      -- the code's place i of the entry
-      module _ (hr : is_registered (sets_of m.queue e) ≡ true) (i : ℕ) (qi : i ≡ position (is_entry e) m.subjects) where
-        pub has-place : i < tree.size T
-        has-place = omega (arith, place_in T (is_entry e) (sym (F.named e (omega arith)) ∙ hr))
+      pub has-place : (o : Option ℕ) → o ≡ position (is_entry e) m.subjects → is_registered (sets_of m.queue e) ≡ true → is_some o ≡ true
+      has-place o q hr = placed (is_entry e) m.subjects o q (sym (F.named e (omega arith)) ∙ hr)
 
+      -- the code's place i of the entry
+      module _ (hr : is_registered (sets_of m.queue e) ≡ true) (i : ℕ) (qi : position (is_entry e) m.subjects ≡ Some i) where
         pub unregistered : is_open m.queue.pick ≡ false → (p : List ℕ) → length p ≡ length T → p ≡ tree.laid (removed_at i m.subjects) T
             → (u : List ℕ) → length u ≡ length (queue_part (after p))
             → u ≡ queue.laid (becomes e (place (sets_of (queue.read (queue_part (after p))) e)) None (queue.read (queue_part (after p)))) (queue_part (after p))
@@ -228,4 +232,4 @@ module _ (s : List ℕ) (h : whole_b s ≡ true) where
             (record { subjects = without e m.subjects; queue = becomes e (place (sets_of m.queue e)) None m.queue })
             (put_mid 385 677 (after p) u)
             (rw (le-ltb 127 e he, ho, hr))
-            (both p k (without e m.subjects) (λ z. becomes e (place (sets_of z e)) None z) u (a ∙ ap (λ (l : List Pair). tree.laid l T) (removed-is T e i qi has-place (F.once e))) n b)
+            (both p k (without e m.subjects) (λ z. becomes e (place (sets_of z e)) None z) u (a ∙ ap (λ (l : List Pair). tree.laid l T) (removed-is T e i qi (F.once e))) n b)

@@ -133,7 +133,7 @@ module _ (b : List ℕ) (l : length b ≡ 1062) where
     no-queue q = sized ∙ rw q
 
     -- the queue is whole; the tree's test came to r
-    module _ (w : queue.whole_b Q ≡ true) (seen : List ℕ) (r : Bool) (f : Fit 8191 0 seen m.subjects r) where
+    module _ (w : queue.whole_b Q ≡ true) (seen : List ℕ) (r : Bool) (f : Fit 8191 false seen m.subjects r) where
       tested : whole_b b ≡ (r && all_b 128 (subject_b m))
       unfolding registry.whole_b pairs_fit_b
       tested =

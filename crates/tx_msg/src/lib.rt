@@ -52,7 +52,7 @@ pub fn whole(s: &[u8]) -> bool
         return false;
     }
     let mut seen = [0u8; 256];
-    if pairs_fit(&s[0..385], &mut seen, 8191, 0) {} else {
+    if !pairs_fit(&s[0..385], &mut seen, 8191, false) {
         return false;
     }
     subjects_ok(&s[385..1062], &seen)
@@ -109,7 +109,7 @@ pub fn unregister(s: &mut [u8], entry: u32) -> Answer
     if is_registered(&s[385..1062], entry as u8) {} else {
         return Answer::Refused(8);
     }
-    let i = position(&s[0..385], entry as u8);
+    let i = position(&s[0..385], entry as u8).unwrap();
     remove(&mut s[0..385], i);
     leave(&mut s[385..1062], entry as u8);
     Answer::Accepted(false)

@@ -1,6 +1,8 @@
+use mathlib.Core.Path.{ap, ◌∙◌}
+use Rattle.std.specs.Prelude.{is_some}
 use Rattle.entry_tree.specs.Pairs.{is_entry}
-use Rattle.entry_tree.proofs.Finding.{found-is}
+use Rattle.entry_tree.proofs.Reading.{read-any}
 use Rattle.entry_tree.proofs.has_entry.Goals as goal
 
 pub returns : goal.returns
-returns c = found-is c.args.t.now (is_entry c.args.entry) c.position-i.result c.len.result c.position-i.ensures c.len.ensures.0
+returns c = c.is_some.ensures ∙ ap is_some c.position.ensures ∙ read-any (is_entry c.args.entry) c.args.t.now

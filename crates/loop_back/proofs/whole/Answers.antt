@@ -11,10 +11,10 @@ pub returns-then-s-gt128 : goal.returns-then-s-gt128
 returns-then-s-gt128 c = sym (no_size c.args.s.now c.if-s-ne389.false c.if-s-gt128.true)
 
 pub pairs_fit-requires : goal.pairs_fit-requires
-pairs_fit-requires c = (((split c.args.s.now c.if-s-ne389.false).long-t, (refl, omega (arith, size_is c.args.s.now, c.if-s-gt128.false))), (omega arith, omega arith))
+pairs_fit-requires c = (record { len = (split c.args.s.now c.if-s-ne389.false).long-t; few = omega (arith, size_is c.args.s.now, c.if-s-gt128.false) }, (refl, omega arith))
 
-pub returns-else-pairs_fit : goal.returns-else-pairs_fit
-returns-else-pairs_fit c = sym (no_pairs c.args.s.now c.if-s-ne389.false c.if-s-gt128.false _ _ c.pairs_fit.ensures c.if-pairs_fit.false)
+pub returns-then-not-pairs_fit : goal.returns-then-not-pairs_fit
+returns-then-not-pairs_fit c = sym (no_pairs c.args.s.now c.if-s-ne389.false c.if-s-gt128.false _ _ c.pairs_fit.ensures c.if-not-pairs_fit.true)
 
 pub returns : goal.returns
-returns c = c.pointed.ensures ∙ whole-last c.args.s.now c.if-s-ne389.false c.if-s-gt128.false _ _ c.pairs_fit.ensures c.if-pairs_fit.true
+returns c = c.pointed.ensures ∙ whole-last c.args.s.now c.if-s-ne389.false c.if-s-gt128.false _ _ c.pairs_fit.ensures c.if-not-pairs_fit.false

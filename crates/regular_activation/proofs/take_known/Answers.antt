@@ -5,7 +5,7 @@ use mathlib.Core.Path.{sym, ◌∙◌}
 use lib.ListN.{length-set, length-replicate}
 use Rattle.entry_tree.proofs.Reading.{bytes_of}
 use Rattle.regular_change.proofs.Looks.{known}
-use Rattle.regular_activation.proofs.Taking.{taking_none, queue-whole, front-then, front-small, tree_long, tree_few, taking_more, shorter}
+use Rattle.regular_activation.proofs.Taking.{taking_none, queue-whole, front-then, front-small, tree_then, taking_more, shorter}
 use Rattle.regular_activation.proofs.take_known.Goals as goal
 
 pub slice_bounds-inner_front-end : goal.slice_bounds-inner_front-end
@@ -18,7 +18,7 @@ pub loop-front-init : goal.loop-front-init
 loop-front-init c = (taking_none c.args.s.now (bytes_of c.args.s.now (search rules)) c.requires.0.0 c.requires.0.1.0 c.requires.0.1.1 c.args.slots.now c.args.gone.now c.requires.1.1.0 c.requires.1.1.1 c.inner_front-front.result c.inner_front-front.ensures, length-replicate {A = ℕ} 128 0)
 
 pub slot_for-j-requires : goal.slot_for-j-requires
-slot_for-j-requires c = ((tree_long c.args.s.now (bytes_of c.args.s.now (search rules)) c.requires.0.0 c.loop-front.s c.loop-front.slots c.loop-front.gone c.loop-front.front c.loop-front.invariant.0, tree_few c.args.s.now (bytes_of c.args.s.now (search rules)) c.requires.0.0 c.loop-front.s c.loop-front.slots c.loop-front.gone c.loop-front.front c.loop-front.invariant.0), (c.requires.1.0.long, (c.loop-front.invariant.1, c.loop-front.invariant.0.run.long-s)))
+slot_for-j-requires c = (tree_then c.args.s.now (bytes_of c.args.s.now (search rules)) c.requires.0.0 c.loop-front.s c.loop-front.slots c.loop-front.gone c.loop-front.front c.loop-front.invariant.0, (c.requires.1.0.long, (c.loop-front.invariant.1, c.loop-front.invariant.0.run.long-s)))
 
 pub inner_second-front-requires : goal.inner_second-front-requires
 inner_second-front-requires c = let w = queue-whole c.args.s.now (bytes_of c.args.s.now (search rules)) c.requires.0.0 c.loop-front.s c.loop-front.slots c.loop-front.gone c.loop-front.front c.loop-front.invariant.0 in (w.whole, (omega (arith, w.classes), front-then c.args.s.now (bytes_of c.args.s.now (search rules)) c.requires.0.0 c.loop-front.s c.loop-front.slots c.loop-front.gone c.loop-front.front c.loop-front.invariant.0 c.in-Some.e c.in-Some.is))

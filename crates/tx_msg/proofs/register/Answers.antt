@@ -6,7 +6,7 @@ use Rattle.tx_queue.specs.declared.Answer.TheVariants.{Refused}
 use Rattle.tx_msg.specs.Bytes.{whole_b, read, laid}
 use Rattle.tx_msg.specs.Steps.{register}
 use Rattle.tx_msg.proofs.Facts.{whole_of}
-use Rattle.tx_msg.proofs.Calls.{long_tree, whole-then, register-entry, register-subject, register_open, register-again, register-taken, room, registered}
+use Rattle.tx_msg.proofs.Calls.{is_tree, long_tree, whole-then, register-entry, register-subject, register_open, register-again, register-taken, room, registered}
 use Rattle.tx_msg.proofs.register.Goals as goal
 
 pub returns-else-whole : goal.returns-else-whole
@@ -34,7 +34,7 @@ pub slice_bounds-has_subject-end : goal.slice_bounds-has_subject-end
 slice_bounds-has_subject-end c = omega (arith, (whole_of c.args.s.now (sym c.whole.ensures ∙ c.if-whole.true)).long)
 
 pub has_subject-requires : goal.has_subject-requires
-has_subject-requires c = (long_tree c.args.s.now (sym c.whole.ensures ∙ c.if-whole.true), (whole_of c.args.s.now (sym c.whole.ensures ∙ c.if-whole.true)).size)
+has_subject-requires c = is_tree c.args.s.now (sym c.whole.ensures ∙ c.if-whole.true)
 
 pub returns-then-has_subject : goal.returns-then-has_subject
 returns-then-has_subject c = register-taken c.args.s.now (sym c.whole.ensures ∙ c.if-whole.true) c.args.entry c.args.subject c.args.readiness c.if-entry-gt127.false c.if-subject-gt8191.false (sym c.is_open.ensures ∙ c.if-is_open.false) (sym c.is_registered.ensures ∙ c.if-is_registered.false) (sym c.has_subject.ensures ∙ c.if-has_subject.true)

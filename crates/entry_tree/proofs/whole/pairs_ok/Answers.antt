@@ -1,24 +1,28 @@
-use mathlib.Core.Path.{sym, ◌∙◌}
-use native.Mathlib.Omega.{arith}
-use Rattle.entry_tree.specs.Places.{pair_at}
-use Rattle.entry_tree.proofs.Passing.{fits_of}
-use Rattle.entry_tree.proofs.Turns.{turn_first, turn_fails, turn_again, turn_end}
+use Prim.Native.Nat.{ℕ, ◌+◌}
+use mathlib.Core.Path.{sym, ap, ◌∙◌, subst}
+use mathlib.Core.List.{List}
+use mathlib.Core.Bool.{true}
+use lib.ListN.{set}
+use Rattle.entry_tree.specs.Pairs.{Pair}
+use Rattle.entry_tree.specs.Testing.{pairs_b, Passed}
+use Rattle.entry_tree.proofs.Turns.{Turn, turn_fails, turn_again, turn_end, failed}
 use Rattle.entry_tree.proofs.whole.pairs_ok.Goals as goal
 
-pub loop-i-init : goal.loop-i-init
-loop-i-init c = (c.len-n.ensures.0, turn_first _ _ _ _ _ _ _ c.requires.0.1.0)
+pub returns-then-not-pair_ok : goal.returns-then-not-pair_ok
+returns-then-not-pair_ok c =
+    let l = c.loop-pair in
+    failed c.args.check c.args.seen.now l.seen _
+    (ap (pairs_b c.args.check c.args.seen.now 0) c.pairs-pair-items.ensures ∙ turn_fails c.args.check _ _ l.seen l.from l.pair-index l.invariant _ c.loop-pair-test.true (sym c.pair_ok.ensures ∙ c.if-not-pair_ok.true))
 
-pub returns-else-pair_ok : goal.returns-else-pair_ok
-returns-else-pair_ok c = let a = c.args in turn_fails a.most a.same a.low a.high a.met a.t.now a.seen.now c.loop-i.seen c.loop-i.from c.loop-i.i c.loop-i.invariant.1 (omega (arith, c.loop-i-test.true, c.loop-i.invariant.0)) (sym c.pair_ok.ensures ∙ c.if-pair_ok.false)
-
-pub bounds-seen-entry_at : goal.bounds-seen-entry_at
-bounds-seen-entry_at c = let a = c.args in omega (arith, c.entry_at.ensures, c.loop-i.invariant.1.long, (fits_of a.most a.same a.low a.high c.loop-i.from c.loop-i.seen (pair_at a.t.now c.loop-i.i) (sym c.pair_ok.ensures ∙ c.if-pair_ok.true)).entry)
-
-pub overflow_add-from : goal.overflow_add-from
-overflow_add-from c = let a = c.args in omega (arith, c.subject_at-from.ensures, (fits_of a.most a.same a.low a.high c.loop-i.from c.loop-i.seen (pair_at a.t.now c.loop-i.i) (sym c.pair_ok.ensures ∙ c.if-pair_ok.true)).subject)
-
-pub loop-i-preserved : goal.loop-i-preserved
-loop-i-preserved c = let a = c.args in (c.loop-i.invariant.0, turn_again a.most a.same a.low a.high a.met a.t.now a.seen.now c.loop-i.seen c.loop-i.from c.loop-i.i c.loop-i.invariant.1 c.entry_at.result c.subject_at-from.result c.entry_at.ensures c.subject_at-from.ensures (omega (arith, c.loop-i-test.true, c.loop-i.invariant.0)) (sym c.pair_ok.ensures ∙ c.if-pair_ok.true))
+pub loop-pair-preserved : goal.loop-pair-preserved
+loop-pair-preserved c =
+    let l = c.loop-pair in
+    let k = c.args.check in
+    subst (λ (e : ℕ). Turn k c.pairs-pair-items.result.now c.args.seen.now (set l.seen (2 + e) k.met) (c.subject_of-from.result + 1) (l.pair-index + 1)) (sym c.from.ensures)
+    (turn_again k _ _ l.seen l.from l.pair-index l.invariant _ c.loop-pair-test.true (sym c.pair_ok.ensures ∙ c.if-not-pair_ok.false) _ c.subject_of-from.ensures)
 
 pub returns : goal.returns
-returns c = let a = c.args in turn_end a.most a.same a.low a.high a.met a.t.now a.seen.now c.loop-i.seen c.loop-i.from c.loop-i.i c.loop-i.invariant.1 (omega (arith, c.loop-i.invariant.0, c.loop-i-test.false))
+returns c =
+    let l = c.loop-pair in
+    subst (λ (p : List Pair). Passed c.args.check c.args.seen.now l.seen p true) (sym c.pairs-pair-items.ensures)
+    (turn_end c.args.check _ _ l.seen l.from l.pair-index l.invariant c.loop-pair-test.false)

@@ -9,31 +9,31 @@ pub slice_bounds-subject_at-end : goal.slice_bounds-subject_at-end
 slice_bounds-subject_at-end c = omega (arith, (known c.args.s.now c.requires.0).long)
 
 pub subject_at-x-requires : goal.subject_at-x-requires
-subject_at-x-requires c = let k = known c.args.s.now c.requires.0 in (k.active-long, omega (arith, k.active-few, c.requires.1))
+subject_at-x-requires c = let k = known c.args.s.now c.requires.0 in (k.active.len, omega (arith, k.active.few, c.requires.1))
 
 pub slice_bounds-from_at-end : goal.slice_bounds-from_at-end
 slice_bounds-from_at-end c = omega (arith, (known c.args.s.now c.requires.0).long)
 
 pub from_at-from-requires : goal.from_at-from-requires
-from_at-from-requires c = let k = known c.args.s.now c.requires.0 in (k.active-long, (k.active-few, (c.requires.1, subject_in_range c.args.s.now c.requires.0 (c.args.i - 1) (omega (arith, c.requires.1)))))
+from_at-from-requires c = let k = known c.args.s.now c.requires.0 in (k.active, (c.requires.1, subject_in_range c.args.s.now c.requires.0 (c.args.i - 1) (omega (arith, c.requires.1))))
 
 pub returns-then-x-from : goal.returns-then-x-from
-returns-then-x-from c = gap_same (active_part c.args.s.now) (entry_at (active_part c.args.s.now) c.args.i) c.args.i (entry-at-place c.args.s.now c.requires.0 c.args.i c.requires.1) c.requires.1 (read c.args.s.now).clean_up c.subject_at-x.result c.from_at-from.result c.subject_at-x.ensures c.from_at-from.ensures c.if-x-from.true
+returns-then-x-from c = gap_same (active_part c.args.s.now) (entry_at (active_part c.args.s.now) c.args.i) c.args.i (entry-at-place c.args.s.now c.requires.0 c.args.i c.requires.1) (read c.args.s.now).clean_up c.subject_at-x.result c.from_at-from.result c.subject_at-x.ensures c.from_at-from.ensures c.if-x-from.true
 
 pub slice_bounds-len-end : goal.slice_bounds-len-end
 slice_bounds-len-end c = omega (arith, (known c.args.s.now c.requires.0).long)
 
 pub len-requires : goal.len-requires
-len-requires c = (known c.args.s.now c.requires.0).active-long
+len-requires c = (known c.args.s.now c.requires.0).active.len
 
 pub overflow_add-i : goal.overflow_add-i
-overflow_add-i c = omega (arith, (known c.args.s.now c.requires.0).active-few, c.requires.1)
+overflow_add-i c = omega (arith, (known c.args.s.now c.requires.0).active.few, c.requires.1)
 
 pub returns-then-len-i : goal.returns-then-len-i
-returns-then-len-i c = gap-last (active_part c.args.s.now) (entry_at (active_part c.args.s.now) c.args.i) c.args.i (entry-at-place c.args.s.now c.requires.0 c.args.i c.requires.1) c.requires.1 (read c.args.s.now).clean_up c.subject_at-x.result c.from_at-from.result c.subject_at-x.ensures c.from_at-from.ensures c.if-x-from.false (omega (arith, c.len.ensures.0, c.if-len-i.true))
+returns-then-len-i c = gap-last (active_part c.args.s.now) (entry_at (active_part c.args.s.now) c.args.i) c.args.i (entry-at-place c.args.s.now c.requires.0 c.args.i c.requires.1) (read c.args.s.now).clean_up c.subject_at-x.result c.from_at-from.result c.subject_at-x.ensures c.from_at-from.ensures c.if-x-from.false (omega (arith, c.len.ensures.0, c.if-len-i.true))
 
 pub next_gap-requires : goal.next_gap-requires
 next_gap-requires c = (c.requires.0, omega (arith, c.len.ensures.0, c.if-len-i.false))
 
 pub returns : goal.returns
-returns c = gap-next (active_part c.args.s.now) (entry_at (active_part c.args.s.now) c.args.i) c.args.i (entry-at-place c.args.s.now c.requires.0 c.args.i c.requires.1) c.requires.1 (read c.args.s.now).clean_up c.subject_at-x.result c.from_at-from.result c.subject_at-x.ensures c.from_at-from.ensures c.if-x-from.false c.next_gap.result c.next_gap.ensures
+returns c = gap-next (active_part c.args.s.now) (entry_at (active_part c.args.s.now) c.args.i) c.args.i (entry-at-place c.args.s.now c.requires.0 c.args.i c.requires.1) (read c.args.s.now).clean_up c.subject_at-x.result c.from_at-from.result c.subject_at-x.ensures c.from_at-from.ensures c.if-x-from.false c.next_gap.result c.next_gap.ensures

@@ -6,7 +6,7 @@ use Rattle.loop_back.specs.Bytes.{whole_b, read, laid}
 use Rattle.loop_back.specs.declared.Answer.TheVariants.{Refused}
 use Rattle.loop_back.specs.Steps.{hub_push_start}
 use Rattle.loop_back.proofs.Facts.{whole_of}
-use Rattle.loop_back.proofs.Acts.{long_tree, few_pairs}
+use Rattle.loop_back.proofs.Acts.{is_tree}
 use Rattle.entry_tree.proofs.Reading.{bytes_of}
 use Rattle.rx_msg.proofs.LoopBack.{start-past, started}
 use Rattle.rx_msg.proofs.loop_back_inner.hub_push_start.Goals as goal
@@ -21,7 +21,7 @@ pub slice_bounds-start_on-end : goal.slice_bounds-start_on-end
 slice_bounds-start_on-end c = omega (arith, (whole_of c.args.s.now (sym c.whole.ensures ∙ c.if-whole.true)).long)
 
 pub start_on-w-requires : goal.start_on-w-requires
-start_on-w-requires c = (long_tree c.args.s.now (sym c.whole.ensures ∙ c.if-whole.true), few_pairs c.args.s.now (sym c.whole.ensures ∙ c.if-whole.true))
+start_on-w-requires c = is_tree c.args.s.now (sym c.whole.ensures ∙ c.if-whole.true)
 
 pub set_walk-requires : goal.set_walk-requires
 set_walk-requires c = omega (arith, (whole_of c.args.s.now (sym c.whole.ensures ∙ c.if-whole.true)).long)

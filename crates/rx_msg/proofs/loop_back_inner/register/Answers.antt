@@ -5,7 +5,7 @@ use Rattle.loop_back.specs.Bytes.{whole_b, read, laid}
 use Rattle.loop_back.specs.declared.Answer.TheVariants.{Refused}
 use Rattle.loop_back.specs.Steps.{register}
 use Rattle.loop_back.proofs.Facts.{whole_of}
-use Rattle.loop_back.proofs.Acts.{long_tree, few_pairs}
+use Rattle.loop_back.proofs.Acts.{is_tree}
 use Rattle.rx_msg.proofs.LoopBack.{register-entry, register-subject, register-again, registered}
 use Rattle.rx_msg.proofs.loop_back_inner.register.Goals as goal
 
@@ -22,7 +22,7 @@ pub slice_bounds-has_entry-end : goal.slice_bounds-has_entry-end
 slice_bounds-has_entry-end c = omega (arith, (whole_of c.args.s.now (sym c.whole.ensures ∙ c.if-whole.true)).long)
 
 pub has_entry-requires : goal.has_entry-requires
-has_entry-requires c = (long_tree c.args.s.now (sym c.whole.ensures ∙ c.if-whole.true), few_pairs c.args.s.now (sym c.whole.ensures ∙ c.if-whole.true))
+has_entry-requires c = is_tree c.args.s.now (sym c.whole.ensures ∙ c.if-whole.true)
 
 pub returns-then-has_entry : goal.returns-then-has_entry
 returns-then-has_entry c = register-again c.args.s.now (sym c.whole.ensures ∙ c.if-whole.true) c.args.entry c.args.subject c.if-entry-gt127.false c.if-subject-gt8191.false (sym c.has_entry.ensures ∙ c.if-has_entry.true)

@@ -18,7 +18,7 @@ pub slice_bounds-start_on-end : goal.slice_bounds-start_on-end
 slice_bounds-start_on-end c = omega (arith, (known c.args.s.now (sym c.whole.ensures ∙ c.if-whole.true)).long)
 
 pub start_on-w-requires : goal.start_on-w-requires
-start_on-w-requires c = let k = known c.args.s.now (sym c.whole.ensures ∙ c.if-whole.true) in (k.active-long, k.active-few)
+start_on-w-requires c = (known c.args.s.now (sym c.whole.ensures ∙ c.if-whole.true)).active
 
 pub set_walk-requires : goal.set_walk-requires
 set_walk-requires c = omega (arith, (known c.args.s.now (sym c.whole.ensures ∙ c.if-whole.true)).long)

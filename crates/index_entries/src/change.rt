@@ -1,4 +1,5 @@
 // The changes: each leaves the bytes of the changed meaning.
+// Numbers are widened by `as`, which proofs compute; tried with `usize::from`: each proof would have to cite its contract once more.
 ghost use Rattle.std.specs.Prelude.{◌≡◌, true, false, ◌+◌, ◌*◌, ◌<◌, ◌≤◌, length, replicate};
 ghost use Rattle.state.specs.Lengths.{lists_length, keys_allowed, keys_length};
 ghost use Rattle.multi_cycle_list.specs.Lists.{without_entry, moved_front, moved_back, empty};

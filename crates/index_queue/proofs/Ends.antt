@@ -7,7 +7,7 @@ use mathlib.Core.Bool.{true}
 use native.Mathlib.Omega.{arith}
 use native.Mathlib.Decide.{dec_lt}
 use lib.ListN.{length, take, drop}
-use Rattle.std.specs.Prelude.{Option, Some, None}
+use Rattle.std.specs.Prelude.{Option, Some}
 use Rattle.state.specs.Result.{Bytes}
 use Rattle.multi_cycle_list.specs.Lists.{Lists, Valid, count, row, first, last}
 use Rattle.multi_cycle_list.specs.Nodes as nodes
@@ -26,7 +26,6 @@ never h = absurd (omega arith)
 pub starts : (l : List ℕ) (i : ℕ) → first l ≡ Some i → (r : List ℕ) × (l ≡ i ∷ r)
 starts [] i q = never (cc)
 starts (x ∷ xs) i q = (xs, cc)
-
 
 first_below : (n : ℕ) (l : List ℕ) → ((i : ℕ) → In i l → i < n) → Below n (first l)
 first_below n [] g = tt

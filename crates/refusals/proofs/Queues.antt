@@ -13,7 +13,7 @@ use Rattle.multi_cycle_list.specs.Lists as lists
 use Rattle.multi_cycle_list.specs.Nodes as nodes
 use Rattle.std.specs.Prelude.{Option, Some, None}
 use Rattle.multi_class_queue.specs.Calls as mcq
-use Rattle.index_entries.specs.Keys.{Slot, free, holds, spent, Keys, slot, Found, missing, at, found}
+use Rattle.index_entries.specs.Keys.{free, holds, spent, Keys, Found, missing, at, found}
 use Rattle.index_entries.specs.Bytes as entries
 use Rattle.index_queue.specs.Calls as iq
 use Rattle.gomxeli.specs.Answers.{packed, number, done, flag, option_first, option_second}

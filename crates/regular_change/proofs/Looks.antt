@@ -141,7 +141,7 @@ known s w =
       facts = reading.read-facts s w;
     }
 
-front-counts : (e : ℕ) (q : List ℕ) → first q ≡ SomeEntry e → 0 < lists.count e q
+front-counts : (e : ℕ) (q : List ℕ) → first q ≡ Some e → 0 < lists.count e q
 front-counts e [] h = absurd (let z : ◌≡◌ {A = ℕ} 0 1 = cc in omega arith)
 front-counts e (x ∷ q) h = let r : x ≡ e = cc in rw (← r) (omega (arith, count-first x q))
 
@@ -167,5 +167,5 @@ module _ (s : List ℕ) (w : whole_b s ≡ true) where
       ∙ omega (arith, any-true (is_entry e) (read s).active h, (known s w).facts.once e, (known s w).facts.waits e)
 
   -- the fronts of the queues
-  pub front-active : (e : ℕ) → first (read s).clean_up ≡ SomeEntry e → has_entry e (read s).active ≡ true
+  pub front-active : (e : ℕ) → first (read s).clean_up ≡ Some e → has_entry e (read s).active ≡ true
   front-active e h = true-any (is_entry e) (read s).active (omega (arith, (known s w).facts.marked e, front-counts e (read s).clean_up h))

@@ -19,11 +19,32 @@ KINDS = ("mcq", "iq", "reg", "lb", "req", "txm", "txr", "img")
 # What the program `calls` uses of the kit's libraries, and of Rattle's std that Rust's has not.
 KIT = {
     "itoa": """
+        pub trait Integer: ToString {}
+        impl Integer for u8 {}
+        impl Integer for u16 {}
         pub struct Buffer(String);
         impl Buffer {
             pub fn new() -> Buffer { Buffer(String::new()) }
-            pub fn format<N: ToString>(&mut self, n: N) -> &str { self.0 = n.to_string(); &self.0 }
+            pub fn format<I: Integer>(&mut self, n: I) -> &str { self.0 = n.to_string(); &self.0 }
         }
+    """,
+    "arrayvec": """
+        use std::ops::Deref;
+        pub struct ArrayVec<T, const CAP: usize>(Vec<T>);
+        impl<T, const CAP: usize> ArrayVec<T, CAP> {
+            pub fn new() -> Self { ArrayVec(Vec::new()) }
+            pub fn is_full(&self) -> bool { self.0.len() == CAP }
+            pub fn push(&mut self, x: T) { assert!(self.0.len() < CAP); self.0.push(x) }
+            pub fn clear(&mut self) { self.0.clear() }
+        }
+        impl<T, const CAP: usize> Deref for ArrayVec<T, CAP> { type Target = [T]; fn deref(&self) -> &[T] { &self.0 } }
+        pub struct ArrayString<const CAP: usize>(String);
+        impl<const CAP: usize> ArrayString<CAP> {
+            pub fn new() -> Self { ArrayString(String::new()) }
+            pub fn push(&mut self, c: char) { assert!(self.0.len() + c.len_utf8() <= CAP); self.0.push(c) }
+            pub fn push_str(&mut self, s: &str) { assert!(self.0.len() + s.len() <= CAP); self.0.push_str(s) }
+        }
+        impl<const CAP: usize> Deref for ArrayString<CAP> { type Target = str; fn deref(&self) -> &str { &self.0 } }
     """,
     "host": """
         pub use std::io::*;

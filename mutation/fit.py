@@ -18,14 +18,17 @@ def missing(said, name):
     for part in logs.parts(said):
         if part.kind == "help" and part.text.startswith("help: `Goals` has no "):
             goals += re.findall(rf"`({NAME})`", part.text.partition("rattle asks for ")[2])
+            goals += re.findall(rf"`({NAME})`", part.text.partition("its ways into a join: ")[2].partition(";")[0])
         if part.kind != "error" or not part.file.startswith(folder):
             continue
         if gone := re.search(rf"has no field `({NAME})`", part.text):
             fields = part.text.partition("the fields that can be named here are ")[2].partition("\n")[0]
             nearest = re.findall(rf"\.({NAME})", part.text.partition("(nearest: ")[2].partition(")")[0])
             found.append((gone[1], re.findall(rf"`({NAME})`", fields) or nearest, bool(fields)))
-        elif gone := re.search(rf"has no `({NAME})` that can be named from here(?: \(names in it that begin alike: (.*?)\))?", part.text):
+        elif gone := re.search(rf"has no `({NAME})` that can be named from here(?: \((?:names in it that begin alike: |did you mean )(.*?)\))?", part.text):
             found.append((gone[1], re.findall(rf"`({NAME})`", gone[2] or ""), False))
+            further = part.text.partition("Further on in this line, not found: ")[2].partition("\n")[0]
+            found += [(it, [], False) for it in re.findall(rf"`({NAME})`", further)]
     return sorted(((gone, [*offered, *goals], ordered) for gone, offered, ordered in found), key=lambda it: not it[2])
 
 
@@ -82,6 +85,11 @@ def renamed(text, found):
     return re.sub("|".join(rf"{before[old]}{re.escape(old)}(?![\w'])" for old in olds), lambda m: found[m[0]], text)
 
 
+def fits(line, name):
+    """Whether names of the line may change: an import only where it is of the function's own goals."""
+    return not line.startswith("use ") or f".proofs.{name.replace('::', '.')}.Goals." in line
+
+
 def fit(said, name, folder):
     """Renames in the function's proof files below the crate's folder; whether anything was changed."""
     files = [p for p in (folder / "proofs" / name.replace("::", "/")).glob("*.antt")]
@@ -90,7 +98,7 @@ def fit(said, name, folder):
     for file in files:
         text = file.read_text(encoding="utf-8")
         new = renamed(text, found) if found else text
-        new = "\n".join(was if was.startswith("use ") else line for was, line in zip(text.split("\n"), new.split("\n")))
+        new = "\n".join(line if fits(was, name) else was for was, line in zip(text.split("\n"), new.split("\n")))
         if new != text:
             file.write_text(new, encoding="utf-8")
             changed = True

@@ -9,7 +9,7 @@ NO_CODE = re.compile(r"is not in scope|(?m:^(?:\./)?(?:src|specs)/[^ ]*: error)"
 # ends do; the prover found values at which a goal fails. What another tactic says of itself, as search that finds no proof, is no such fact.
 FACT = re.compile(
     r"error: `[^`]*`: (?:`omega`: the goal does not follow from what it read\. All of that holds, and the goal fails[,.]"
-    r"|`[^`\n]*` ≟ `"
+    r"|`[^`\n]*`\s+≟ `"
     r"|(?!`)[\s\S]*(?:the two (?:types|sides|values|indices) |expected type `[\s\S]*but this has type `|must be a path whose two ends are equal))"
     r"|the facts known there allow values at which this goal is false|may be false: the known facts allow "
 )
@@ -73,6 +73,9 @@ def own(said, name):
         elif part.kind == "note":
             before.append(part.text)
         elif part.kind in ("fn", "enum", "struct"):
+            if re.match(rf"fn \w+::{name}: no proof: expected answers in \S+$", part.text):
+                # the search was not begun, since a law that it is to use was not admitted: the function only waits
+                return []
             if re.match(rf"fn \w+::{name}: ", part.text):
                 found += [text for text in before if OPEN.search(text)]
             before = []

@@ -3,25 +3,31 @@ use Prim.Native.Nat.{ℕ, ◌+◌, ◌-◌, ◌^◌, ◌<◌, ◌≤◌}
 use mathlib.Core.Path.{◌≡◌, refl, sym, ap, ◌∙◌}
 use mathlib.Core.Bool.{Bool, true, false, cond}
 use mathlib.Core.List.{List, [], ◌∷◌, ◌++◌, append_assoc, append-nil}
-use Rattle.std.specs.Prelude.{Option, None, Some, Result, Ok, Err, OnOk, OnErr}
+use Rattle.std.specs.Prelude.{Option, None, Some, Result, Ok, Err, OnErr}
 use Rattle.std.specs.Io.KnownBytes.{Appends, Consumes, IsAtEnd}
 use native.Mathlib.Numerals.{add-one}
 use native.Mathlib.Omega.{arith}
 use lib.Dec.{eqb, ltb}
-use lib.ListN.{length, get_or, take, drop, set, length-append}
-use lib.Seq.{take_all, take_at, take-append-le, length-take-le, take-suc, take-suc-set}
-use borrow.Author.Tests.{lt-ltb, le-ltb, ltb-true, ltb-false, ne_eqb}
+use lib.ListN.{length, get_or, take, length-append}
+use lib.Seq.{take_all, take-append-le, length-take-le, take-suc}
+use borrow.Author.Tests.{lt-leb, lt-ltb, le-ltb, ltb-true, ltb-false, ne_eqb}
 use Rattle.calls_line.specs.Lines.{does, parsed}
-use Rattle.calls_line.proofs.ReadLaws.{parsed-long}
 use Rattle.calls.specs.Reader.{Reader, reader, kept, fed, prints, fed_all, prints_all, last, lines, printed, prints_last, Reads}
 use Rattle.calls.specs.Inner.{IsStateWithin, Answered}
 
 -- ---- 32 bytes of a line tell what it comes to
 
+parsed-long : (p : List ℕ) → 31 < length p → parsed p ≡ None
+unfolding parsed
+parsed-long [] h = absurd (omega arith)
+parsed-long (c ∷ p) h = rw (lt-leb (length (c ∷ p)) 31 h) refl
+
 parsed-first : (p : List ℕ) → parsed (take 32 p) ≡ parsed p
 parsed-first p = by_length (ltb 32 (length p)) refl where
   by_length : (t : Bool) → ltb 32 (length p) ≡ t → parsed (take 32 p) ≡ parsed p
-  by_length true h = sym (parsed-long (take 32 p) (omega (arith, length-take-le 32 p (omega (arith, ltb-true 32 (length p) h))))) ∙ parsed-long p (omega (arith, ltb-true 32 (length p) h))
+  by_length true h =
+      let l = ltb-true 32 (length p) h in
+      parsed-long (take 32 p) (omega (arith, length-take-le 32 p (omega arith))) ∙ sym (parsed-long p (omega arith))
   by_length false h = rw (take_all 32 p (ltb-false 32 (length p) h))
 
 does-first : (b p : List ℕ) → does b (take 32 p) ≡ does b p
@@ -75,28 +81,25 @@ reads = record { cut = λ r a c. (cut-fed r a c, cut-prints r a c); by_lines = �
 
 -- ---- one byte
 
--- what is printed stands in the buffer
-pub printed-room : {r : ℕ} {new : List ℕ} (text out : List ℕ) → r ≡ length text → new ≡ text ++ drop r out → r ≤ length new
-printed-room {r} {new} text out e t = omega (arith, ap length t, length-append text (drop r out))
+module _ (s p : List ℕ) (b : ℕ) where
+  -- a line end: the line was lent as p', and q is what is kept
+  module _ (h : b ≡ 10) {p' : List ℕ} (e : p' ≡ p) where
+    pub fed_end : {s' q : List ℕ} → s' ≡ (does s p').state → q ≡ [] → reader s' q ≡ fed (reader s p) b
+    fed_end d z = rw (h, d, e, z) refl
 
-module _ (s part out : List ℕ) (n b : ℕ) where
-  abbrev now : Reader
-  now = reader s (take n part)
+    -- what is printed is o, and is lent as t, then as u
+    pub prints_end : {o t u : List ℕ} → o ≡ (does s p').text → t ≡ o → u ≡ t → u ≡ prints (reader s p) b
+    prints_end d f g = rw (h, g, f, d, e) refl
 
-  -- a line end: r bytes are printed
-  pub fed_end : b ≡ 10 → (s' out' : List ℕ) (r : ℕ) → r ≡ length (does s (take n part)).text → s' ≡ (does s (take n part)).state → out' ≡ (does s (take n part)).text ++ drop r out
-      → (reader s' (take 0 part) ≡ fed now b) × ((take r out' ≡ prints now b) × ((0 ≤ 32) × (r ≤ length out')))
-  fed_end q s' out' r e w t = (rw (q, w), (rw q (rw t (take_at (does s (take n part)).text (drop r out) r (sym e))), (omega arith, printed-room (does s (take n part)).text out e t)))
+  module _ (h : b ≡ 10 → ⊥) where
+    pub fed_kept : length p < 32 → {q : List ℕ} → q ≡ p ++ (b ∷ []) → reader s q ≡ fed (reader s p) b
+    fed_kept l z = rw (ne_eqb b 10 h, lt-ltb (length p) 32 l, z) refl
 
-  pub fed-kept : (b ≡ 10 → ⊥) → length part ≡ 32 → n < 32 → (reader s (take (n + 1) (set part n b)) ≡ fed now b) × ((take 0 out ≡ prints now b) × ((n + 1 ≤ 32) × (0 ≤ length out)))
-  fed-kept q l h =
-      let z : length (take n part) ≡ n = length-take-le n part (omega arith) in
-      (rw (add-one, ne_eqb b 10 q, z, lt-ltb n 32 h, take-suc-set part n b (omega arith)), (rw (ne_eqb b 10 q), (omega arith, omega arith)))
+    pub fed_full : 32 ≤ length p → reader s p ≡ fed (reader s p) b
+    fed_full l = rw (ne_eqb b 10 h, le-ltb (length p) 32 l) refl
 
-  pub fed-full : (b ≡ 10 → ⊥) → length part ≡ 32 → 32 ≤ n → n ≤ 32 → (reader s (take n part) ≡ fed now b) × ((take 0 out ≡ prints now b) × ((n ≤ 32) × (0 ≤ length out)))
-  fed-full q l h m =
-      let z : length (take n part) ≡ n = length-take-le n part (omega arith) in
-      (rw (ne_eqb b 10 q, z, le-ltb n 32 h), (rw (ne_eqb b 10 q), (m, omega arith)))
+    pub prints_none : [] ≡ prints (reader s p) b
+    prints_none = rw (ne_eqb b 10 h) refl
 
 -- ---- bytes that are written and taken
 
@@ -142,7 +145,8 @@ prints-one r x = append-nil (prints r x)
 one-more : (text : List ℕ) (i : ℕ) → i < length text → take (i + 1) text ≡ take i text ++ (get_or text i 0 ∷ [])
 one-more text i h = rw add-one (take-suc text i 0 h)
 
-pub fed-more : (r : Reader) (text : List ℕ) (i : ℕ) {now now' : Reader} → i < length text → now ≡ fed_all r (take i text) → now' ≡ fed now (get_or text i 0) → now' ≡ fed_all r (take (i + 1) text)
+fed-more : (r : Reader) (text : List ℕ) (i : ℕ) {now now' : Reader} → i < length text → now ≡ fed_all r (take i text) → now' ≡ fed now (get_or text i 0)
+    → now' ≡ fed_all r (take (i + 1) text)
 fed-more r text i {now} {now'} h q e = rw (one-more text i h, cut-fed r (take i text) (get_or text i 0 ∷ []), ← q, fed-one now (get_or text i 0)) e
 
 pub feeding_more : {r now now' : Reader} {text out : List ℕ} {i : ℕ} {held held' held'' : Option (List ℕ)} → Feeding r text i now held held' → i < length text
@@ -154,11 +158,9 @@ feeding_more {r} {now} {now'} {text} {out} {i} {held} {held'} {held''} f h e w a
       (appends_more held held' held'' (prints_all r (take i text)) out f.written a);
 }
 
-pub feeding_all : {r now : Reader} {text : List ℕ} {i : ℕ} {held held' : Option (List ℕ)} → Feeding r text i now held held' → length text ≤ i → (now ≡ fed_all r text) × Appends held held' (prints_all r text)
-feeding_all {r} {now} {text} {i} f h = let e : take i text ≡ text = take_all i text h in (rw e at f.reads, rw e at f.written)
-
 -- the registry's bytes after the byte at i
-pub within : (r : Reader) (text : List ℕ) (i : ℕ) {now now' : Reader} → i < length text → now ≡ fed_all r (take i text) → now' ≡ fed now (get_or text i 0) → IsStateWithin r text now'.state
+pub within : (r : Reader) (text : List ℕ) (i : ℕ) {now now' : Reader} → i < length text → now ≡ fed_all r (take i text) → now' ≡ fed now (get_or text i 0)
+    → IsStateWithin r text now'.state
 within r text i h q e = (i + 1, omega arith, ap (λ (z : Reader). z.state) (fed-more r text i h q e))
 
 pub on_err : {T E P : Type 0} (r : Result T E) → P → OnErr r P
@@ -167,24 +169,15 @@ on_err (Err e) p = p
 
 -- ---- the end of the input
 
-pub last-none : (s part : List ℕ) (n : ℕ) (held : Option (List ℕ)) → n ≡ 0 → Appends held held (prints_last (reader s (take n part)))
+pub last_none : (s p : List ℕ) (held : Option (List ℕ)) → length p ≡ 0 → Appends held held (prints_last (reader s p))
 unfolding printed
-last-none s part n held q = rw q (appends_none held)
+last_none s [] held h = appends_none held
+last_none s (x ∷ p) held h = absurd (omega arith)
 
-last-some : (s p : List ℕ) → 0 < length p → prints_last (reader s p) ≡ (does s p).text
+pub last_some : (s p : List ℕ) → 0 < length p → prints_last (reader s p) ≡ (does s p).text
 unfolding printed
-last-some s [] h = absurd (omega arith)
-last-some s (x ∷ p) h = append-nil (does s (x ∷ p)).text
-
--- r bytes are written
-last-line : (s part out : List ℕ) (n : ℕ) {out' : List ℕ} {r : ℕ} → (n ≡ 0 → ⊥) → n ≤ length part → r ≡ length (does s (take n part)).text → out' ≡ (does s (take n part)).text ++ drop r out
-    → take r out' ≡ prints_last (reader s (take n part))
-last-line s part out n {out'} {r} z h e t =
-    rw (last-some s (take n part) (omega (arith, length-take-le n part h)), t) (take_at (does s (take n part)).text (drop r out) r (sym e))
-
-pub last-written : {T E : Type 0} (res : Result T E) (held held' : Option (List ℕ)) (s part out : List ℕ) (n : ℕ) {out' : List ℕ} {r : ℕ} → (n ≡ 0 → ⊥) → n ≤ length part → r ≡ length (does s (take n part)).text
-    → out' ≡ (does s (take n part)).text ++ drop r out → OnOk res (Appends held held' (take r out')) → OnOk res (Appends held held' (prints_last (reader s (take n part))))
-last-written res held held' s part out n z h e t w = rw (last-line s part out n z h e t) at w
+last_some s [] h = absurd (omega arith)
+last_some s (x ∷ p) h = append-nil (does s (x ∷ p)).text
 
 -- ---- the input, after some turns that each took a byte at least
 
@@ -199,18 +192,22 @@ pub reading_none : (b : List ℕ) (left held : Option (List ℕ)) → Reading b 
 unfolding fed_all prints_all
 reading_none b left held = record { text = []; long = omega arith; taken = consumes_none left; reads = refl; written = appends_none held }
 
-pub reading_more : {b : List ℕ} {turns : ℕ} {left left' left'' held held' held'' : Option (List ℕ)} {now now' : Reader} (chunk : List ℕ) → Reading b turns left left' held held' now → 0 < length chunk
+pub reading_more : {b : List ℕ} {turns : ℕ} {left left' left'' held held' held'' : Option (List ℕ)} {now now' : Reader} (chunk : List ℕ)
+    → Reading b turns left left' held held' now → 0 < length chunk
     → Consumes left' left'' chunk → now' ≡ fed_all now chunk → Appends held' held'' (prints_all now chunk) → Reading b (turns + 1) left left'' held held'' now'
 reading_more {b} {turns} {left} {left'} {left''} {held} {held'} {held''} {now} {now'} chunk f h a e w = record {
   text = f.text ++ chunk;
   long = omega (arith, h, f.long, length-append f.text chunk);
   taken = consumes_more left left' left'' f.text chunk f.taken a;
   reads = rw (cut-fed (reader b []) f.text chunk, ← f.reads) e;
-  written = rw (cut-prints (reader b []) f.text chunk, ← f.reads) (appends_more held held' held'' (prints_all (reader b []) f.text) (prints_all now chunk) f.written w);
+  written =
+      rw (cut-prints (reader b []) f.text chunk, ← f.reads)
+      (appends_more held held' held'' (prints_all (reader b []) f.text) (prints_all now chunk) f.written w);
 }
 
 -- a last turn that took nothing
-pub reading_stop : {b : List ℕ} {turns : ℕ} {left left' left'' held held' : Option (List ℕ)} {now : Reader} → Reading b turns left left' held held' now → Consumes left' left'' [] → Reading b turns left left'' held held' now
+pub reading_stop : {b : List ℕ} {turns : ℕ} {left left' left'' held held' : Option (List ℕ)} {now : Reader} → Reading b turns left left' held held' now
+    → Consumes left' left'' [] → Reading b turns left left'' held held' now
 reading_stop {b} {turns} {left} {left'} {left''} {held} {held'} {now} f a = record {
   text = f.text;
   long = f.long;
@@ -219,7 +216,8 @@ reading_stop {b} {turns} {left} {left'} {left''} {held} {held'} {now} f a = reco
   written = f.written;
 }
 
-pub answered : {b : List ℕ} {turns : ℕ} {left left' held held' held'' : Option (List ℕ)} {now : Reader} (f : Reading b turns left left' held held' now) → (length f.text < 2 ^ 64 - 1 → IsAtEnd left') → Appends held' held'' (prints_last now)
+pub answered : {b : List ℕ} {turns : ℕ} {left left' held held' held'' : Option (List ℕ)} {now : Reader} (f : Reading b turns left left' held held' now)
+    → (length f.text < 2 ^ 64 - 1 → IsAtEnd left') → Appends held' held'' (prints_last now)
     → Answered b left left' held held''
 answered {b} {turns} {left} {left'} {held} {held'} {held''} {now} f e w = record {
   text = f.text;
@@ -229,7 +227,3 @@ answered {b} {turns} {left} {left'} {held} {held'} {held''} {now} f e w = record
       rw (← reads.by_lines b f.text)
       (appends_more held held' held'' (prints_all (reader b []) f.text) (prints_last (fed_all (reader b []) f.text)) f.written (rw f.reads at w));
 }
-
-pub on_ok : {T E P Q : Type 0} (r : Result T E) → (P → Q) → OnOk r P → OnOk r Q
-on_ok (Ok x) f p = f p
-on_ok (Err e) f p = tt

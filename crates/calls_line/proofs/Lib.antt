@@ -1,4 +1,3 @@
 pub mod ReadLaws
-pub mod PrintLaws
 pub mod WalkLaws
 pub mod WholeWalk

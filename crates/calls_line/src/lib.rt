@@ -4,26 +4,29 @@
 mod parsing;
 mod printing;
 
-ghost use Rattle.std.specs.Prelude.{◌≡◌, ◌++◌, length, drop};
+ghost use Rattle.std.specs.Prelude.{◌≡◌};
 ghost use Rattle.calls_line.specs.Lines.{does, WalkMeans};
 
-use parsing::Call;
-use printing::{say, walk};
-use regular::Answer;
-use rx_msg::regular_inner::{poll_pop, register, unregister};
+use parsing::{Call, parse};
+pub use printing::Printed;
+use printing::{head, poll, walk};
+use rx_msg::regular_inner::{register, unregister};
+use state::Refusal;
 
-// The line `text` on the registry's bytes: the first bytes of `out` are what is printed, and the answer is how many.
-pub fn line(s: &mut [u8], text: &[u8], out: &mut [u8; 640]) -> usize
-    ensures { (result ≡ length (does s.old text.now).text) × ((s.new ≡ (does s.old text.now).state) × (out.new ≡ (does s.old text.now).text ++ drop result out.old)) }
+/// The line `text` on the registry's bytes: what is printed.
+#[tactic(auto, unfolding(crate::specs::Lines::said))]
+pub fn line(s: &mut [u8], text: &[u8]) -> Printed
+    ensures { (result.bytes ≡ (does s.old text.now).text) × (s.new ≡ (does s.old text.now).state) }
 {
-    let call = parsing::parse(text);
-    match call {
-        Call::Register(entry, subject) => say(out, b'R', register(s, entry, subject)),
-        Call::Unregister(entry) => say(out, b'U', unregister(s, entry)),
-        Call::Poll => say(out, b'P', poll_pop(s)),
-        Call::Walk(subject) => walk(s, out, subject),
-        Call::NoCall => say(out, b'?', Answer::Refused(17)),
-    }
+    let mut out = match parse(text) {
+        Some(Call::Register(entry, subject)) => head('R', register(s, entry, subject).err()),
+        Some(Call::Unregister(entry)) => head('U', unregister(s, entry).err()),
+        Some(Call::Poll) => poll(s),
+        Some(Call::Walk(subject)) => walk(s, subject),
+        None => head('?', Some(Refusal::NoCall)),
+    };
+    out.push('\n');
+    out
 }
 
 // Does nothing: its contract is the theorem that a walk on whole bytes names every active entry on its subject.

@@ -1,168 +1,79 @@
 // The call that a line is.
-ghost use Rattle.std.specs.Prelude.{◌≡◌, ℕ, ◌+◌, ◌-◌, ◌≤◌, length, take, drop};
-ghost use Rattle.calls_line.specs.declared.parsing.Call as call;
-ghost use Rattle.calls_line.specs.Lines as lines;
-ghost use Rattle.calls_line.specs.Lines.{is_digit, front, with_one, with_two, parsed};
-ghost use Rattle.calls_line.specs.Inner.{front_of, end_of, call_of};
+ghost use Rattle.std.specs.Prelude.{◌≡◌, ◌≤◌, length, option_map};
+ghost use Rattle.std.specs.List.{prefix_len};
+ghost use Rattle.std.specs.Char.{is_ascii_digit};
+ghost use Rattle.std.specs.Str.Parse.{AllDigits, digits_value};
+ghost use Rattle.calls_line.specs.Lines.{argument, last_argument, parsed};
 
-#[derive(Clone, Copy)]
+use std::str;
+
+/// A call: `Register` has the entry and the subject, `Unregister` the entry, `Walk` the subject.
+#[derive(Clone, Copy, Debug, PartialEq, Eq)]
 pub enum Call {
     Register(u32, u32),
     Unregister(u32),
     Poll,
     Walk(u32),
-    NoCall,
 }
 
-// A number, and where it ends.
-#[derive(Clone, Copy)]
-enum Argument {
-    Absent,
-    Number(u32, usize),
-}
-
-// A number with nothing after it.
-#[derive(Clone, Copy)]
-enum Last {
-    Absent,
-    Number(u32),
-}
-
-fn is_digit(b: u8) -> bool
-    ensures { result ≡ is_digit b }
+// The number that 1 to 5 digits write.
+#[tactic(auto, using(crate::proofs::ReadLaws::digits_read))]
+fn digits_value(digits: &[u8]) -> u32
+    requires { AllDigits 10 digits.now × (1 ≤ length digits.now) × (length digits.now ≤ 5) }
+    ensures { result ≡ digits_value 10 digits.now }
 {
-    if b < b'0' {
-        return false;
-    }
-    b <= b'9'
+    str::from_utf8(digits).unwrap().parse().unwrap()
 }
 
-// How many digits stand at `at`.
-fn digits(text: &[u8], at: usize) -> usize
-    requires { at ≤ length text.now }
-    ensures { (result ≡ lines.digits (drop at text.now)) × (at + result ≤ length text.now) }
+// How many digits a text begins with.
+fn digits_len(text: &[u8]) -> usize
+    ensures value { result ≡ prefix_len is_ascii_digit text.now }
+    ensures within { result ≤ length text.now }
 {
-    let mut i = at;
-    while i < text.len() {
-        if is_digit(text[i]) {} else {
-            return i - at;
-        }
-        i += 1;
-    }
-    i - at
+    text.iter().take_while(|byte| byte.is_ascii_digit()).count()
 }
 
-// The value of the digits from `at` up to `end`.
-fn value(text: &[u8], at: usize, end: usize) -> u32
-    requires { ((at ≤ end) × (end ≤ length text.now)) × ((end - at ≤ 5) × (end - at ≤ lines.digits (drop at text.now))) }
-    ensures { result ≡ lines.value 0 (take (end - at) (drop at text.now)) }
+// A blank and a number of 1 to 5 digits: the number, and what follows.
+#[tactic(auto, using(crate::proofs::ReadLaws::first_digits), unfolding(crate::specs::Lines::argument))]
+fn argument(text: &[u8]) -> Option<(u32, &[u8])>
+    ensures { option_map (λ r. (r.0, r.1.now)) result ≡ argument text.now }
 {
-    let mut v = 0;
-    let mut i = at;
-    while i < end {
-        v = 10 * v + ((text[i] - b'0') as u32);
-        i += 1;
+    let [b' ', rest @ ..] = text else {
+        return None;
+    };
+    let count = digits_len(rest);
+    if !(1..=5).contains(&count) {
+        return None;
     }
-    v
+    let (digits, rest) = rest.split_at(count);
+    Some((digits_value(digits), rest))
 }
 
-// The number after the blank at `at`.
-fn argument_at(text: &[u8], at: usize) -> Argument
-    requires { at ≤ length text.now }
-    ensures { (front_of text.now result ≡ front (drop at text.now)) × (end_of result ≤ length text.now) }
+// The same with nothing after it.
+fn last_argument(text: &[u8]) -> Option<u32>
+    ensures { result ≡ last_argument text.now }
 {
-    if at == text.len() {
-        return Argument::Absent;
-    }
-    if text[at] != b' ' {
-        return Argument::Absent;
-    }
-    let n = digits(text, at + 1);
-    if n == 0 {
-        return Argument::Absent;
-    }
-    if 5 < n {
-        return Argument::Absent;
-    }
-    let end = at + 1 + n;
-    Argument::Number(value(text, at + 1, end), end)
-}
-
-fn last_argument(text: &[u8], at: usize) -> Last
-    requires { at ≤ length text.now }
-    ensures { (f : ℕ → call.Call) → call_of f result ≡ with_one f (front (drop at text.now)) }
-{
-    let found = argument_at(text, at);
-    match found {
-        Argument::Absent => Last::Absent,
-        Argument::Number(v, end) => {
-            if end == text.len() {
-                return Last::Number(v);
-            }
-            Last::Absent
-        }
+    match argument(text)? {
+        (number, []) => Some(number),
+        _ => None,
     }
 }
 
-fn register_call(text: &[u8]) -> Call
-    requires { 1 ≤ length text.now }
-    ensures { result ≡ with_two Call.Register (front (drop 1 text.now)) }
-{
-    let first = argument_at(text, 1);
-    match first {
-        Argument::Absent => Call::NoCall,
-        Argument::Number(entry, at) => {
-            let second = last_argument(text, at);
-            match second {
-                Last::Absent => Call::NoCall,
-                Last::Number(subject) => Call::Register(entry, subject),
-            }
-        }
-    }
-}
-
-fn unregister_call(text: &[u8]) -> Call
-    requires { 1 ≤ length text.now }
-    ensures { result ≡ with_one Call.Unregister (front (drop 1 text.now)) }
-{
-    let found = last_argument(text, 1);
-    match found {
-        Last::Absent => Call::NoCall,
-        Last::Number(entry) => Call::Unregister(entry),
-    }
-}
-
-fn walk_call(text: &[u8]) -> Call
-    requires { 1 ≤ length text.now }
-    ensures { result ≡ with_one Call.Walk (front (drop 1 text.now)) }
-{
-    let found = last_argument(text, 1);
-    match found {
-        Last::Absent => Call::NoCall,
-        Last::Number(subject) => Call::Walk(subject),
-    }
-}
-
-pub fn parse(text: &[u8]) -> Call
+#[tactic(auto, unfolding(crate::specs::Lines::parsed))]
+pub fn parse(text: &[u8]) -> Option<Call>
     ensures { result ≡ parsed text.now }
 {
-    let n = text.len();
-    if n == 0 {
-        return Call::NoCall;
+    if 31 < text.len() {
+        return None;
     }
-    if 31 < n {
-        return Call::NoCall;
-    }
-    match text[0] {
-        b'R' => register_call(text),
-        b'U' => unregister_call(text),
-        b'P' => {
-            if n == 1 {
-                return Call::Poll;
-            }
-            Call::NoCall
+    match text {
+        [b'R', rest @ ..] => {
+            let (entry, rest) = argument(rest)?;
+            Some(Call::Register(entry, last_argument(rest)?))
         }
-        b'W' => walk_call(text),
-        _ => Call::NoCall,
+        [b'U', rest @ ..] => Some(Call::Unregister(last_argument(rest)?)),
+        b"P" => Some(Call::Poll),
+        [b'W', rest @ ..] => Some(Call::Walk(last_argument(rest)?)),
+        _ => None,
     }
 }

@@ -1,129 +1,114 @@
-// What is printed of an answer.
-ghost use Rattle.std.specs.Prelude.{◌≡◌, ◌∷◌, [], ◌+◌, ◌≤◌, length};
-ghost use Rattle.regular.specs.Steps.{hub_push_start};
-ghost use Rattle.regular.specs.Calls.{on};
+// What is printed of a call, but for the line's end.
+ghost use Rattle.std.specs.Prelude.{◌≡◌, ◌∷◌, true, [], ◌++◌, ◌+◌, ◌≤◌, ◌<◌, decimal};
+ghost use Rattle.arrayvec.specs.ArrayString.{array_string_len};
+ghost use Rattle.regular.specs.Steps.{poll_pop, hub_push_start};
+ghost use Rattle.regular.specs.Calls.{on, bytes};
 ghost use Rattle.calls_line.specs.Lines as lines;
-ghost use Rattle.calls_line.specs.Lines.{decimal, spaced, shown, printed, named, walked};
-ghost use Rattle.calls_line.specs.Inner.{Put};
+ghost use Rattle.calls_line.specs.Lines.{spaced, refused, of_update, named, walked};
 
-use itoa::Buffer;
-use regular::Answer;
-use rx_msg::regular_inner::{hub_push_next, hub_push_start};
+use arrayvec::ArrayString;
+use itoa::{Buffer, Integer};
+use regular::FilterUpdate;
+use rx_msg::regular_inner::{hub_push_next, hub_push_start, poll_pop};
+use state::Refusal;
 
-// Puts the word w into `out` at `at`; where it ends.
-fn put(out: &mut [u8], at: usize, w: &[u8]) -> usize
-    requires { at + length w.now ≤ length out.old }
-    ensures { Put out.old at w.now out.new result }
+/// What is printed of a line.
+pub type Printed = ArrayString<640>;
+
+// A registry has at most so many.
+const ENTRIES: usize = 128;
+
+// The number. Not by `write!`, whose contract does not say that it finds room.
+fn put_number<I: Integer>(out: &mut Printed, number: I)
+    requires { array_string_len out.old + I.MAX_STR_LEN ≤ 640 }
+    ensures text { out.new.bytes ≡ out.old.bytes ++ I.text number }
+    ensures short { array_string_len out.new ≤ array_string_len out.old + I.MAX_STR_LEN }
 {
-    let n = w.len();
-    let mut i = 0;
-    while i < n {
-        out[at + i] = w[i];
-        i += 1;
-    }
-    at + n
+    out.push_str(Buffer::new().format(number));
 }
 
-// Puts a number of at most 5 digits.
-fn put_number(out: &mut [u8], at: usize, n: u16) -> usize
-    requires { at + 5 ≤ length out.old }
-    ensures { (Put out.old at (decimal n) out.new result) × (result ≤ at + 5) }
+/// The letter and a refusal's number, or 0.
+#[tactic(auto, unfolding(crate::specs::Lines::spaced))]
+pub fn head(letter: char, refusal: Option<Refusal>) -> Printed
+    requires { letter < 128 }
+    ensures text { result.bytes ≡ letter ∷ spaced (decimal (refused refusal) ∷ []) }
+    ensures short { array_string_len result ≤ 5 }
 {
-    let mut digits = Buffer::new();
-    put(out, at, digits.format(n).as_bytes())
+    let mut text = Printed::new();
+    text.push(letter);
+    text.push(' ');
+    put_number(&mut text, refusal.map_or(0, u8::from));
+    text
 }
 
-fn number(a: Answer) -> u8
-    ensures { result ≡ (shown a).number }
+// What a poll hands out.
+#[tactic(auto, unfolding(crate::specs::Lines::spaced))]
+fn put_update(out: &mut Printed, update: Option<FilterUpdate>)
+    requires { array_string_len out.old ≤ 5 }
+    ensures text { out.new.bytes ≡ out.old.bytes ++ spaced (of_update update) }
+    ensures short { array_string_len out.new < 640 }
 {
-    match a {
-        Answer::Refused(n) => n,
-        _ => 0,
-    }
-}
-
-fn more(a: Answer) -> bool
-    ensures { result ≡ (shown a).more }
-{
-    match a {
-        Answer::Started(t) => t,
-        Answer::Pushed(_, t) => t,
-        _ => false,
-    }
-}
-
-// Puts the update, or the entry named.
-fn put_words(out: &mut [u8], at: usize, a: Answer) -> usize
-    requires { at + 20 ≤ length out.old }
-    ensures { (Put out.old at (spaced (shown a).words) out.new result) × (result ≤ at + 20) }
-{
-    match a {
-        Answer::AddSubject(x) => {
-            let i = put(out, at, b" add ");
-            put_number(out, i, x)
+    match update {
+        Some(FilterUpdate::AddSubject(subject)) => {
+            out.push_str(" add ");
+            put_number(out, subject);
         }
-        Answer::RemoveSubjectRange(x, y) => {
-            let i = put(out, at, b" remove ");
-            let k = put_number(out, i, x);
-            out[k] = b' ';
-            put_number(out, k + 1, y)
+        Some(FilterUpdate::RemoveSubjectRange(first, last)) => {
+            out.push_str(" remove ");
+            put_number(out, first);
+            out.push(' ');
+            put_number(out, last);
         }
-        Answer::Nothing => put(out, at, b" nothing"),
-        Answer::Pushed(e, _) => {
-            out[at] = b' ';
-            put_number(out, at + 1, e as u16)
-        }
-        _ => at,
+        None => out.push_str(" nothing"),
     }
 }
 
-// Puts the letter and the number.
-fn put_head(out: &mut [u8], letter: u8, a: Answer) -> usize
-    requires { 7 ≤ length out.old }
-    ensures { (Put out.old 0 (letter ∷ spaced (decimal (shown a).number ∷ [])) out.new result) × (result ≤ 7) }
+/// A poll: the update that it hands out, or `nothing`.
+#[tactic(auto, unfolding(crate::specs::Lines::spaced))]
+pub fn poll(s: &mut [u8]) -> Printed
+    ensures text { result.bytes ++ 10 ∷ [] ≡ (lines.once 80 of_update s.old (on poll_pop s.old)).text }
+    ensures short { array_string_len result < 640 }
+    ensures state { s.new ≡ bytes s.old (on poll_pop s.old) }
 {
-    out[0] = letter;
-    out[1] = b' ';
-    put_number(out, 2, number(a) as u16)
-}
-
-pub fn say(out: &mut [u8], letter: u8, a: Answer) -> usize
-    requires { length out.old ≡ 640 }
-    ensures { (Put out.old 0 (printed letter (shown a).number (shown a).words) out.new result) × (result ≤ 640) }
-{
-    let i = put_head(out, letter, a);
-    let k = put_words(out, i, a);
-    out[k] = b'\n';
-    k + 1
-}
-
-// Names at most 128 entries, while more follow.
-fn put_names(s: &mut [u8], out: &mut [u8], at: usize, follow: bool) -> usize
-    requires { (length out.old ≡ 640) × (at ≤ 7) }
-    ensures { (Put out.old at (spaced (named 128 follow s.old)) out.new result) × ((s.new ≡ walked 128 follow s.old) × (result ≤ 519)) }
-{
-    let mut i = at;
-    let mut go = follow;
-    let mut left: usize = 128;
-    while 0 < left {
-        if go {} else {
-            return i;
-        }
-        let a = hub_push_next(s);
-        i = put_words(out, i, a);
-        go = more(a);
-        left -= 1;
+    let popped = poll_pop(s);
+    let mut out = head('P', popped.err());
+    if let Ok(update) = popped {
+        put_update(&mut out, update);
     }
-    i
+    out
 }
 
-pub fn walk(s: &mut [u8], out: &mut [u8], subject: u32) -> usize
-    requires { length out.old ≡ 640 }
-    ensures { (Put out.old 0 (lines.walk s.old (on (hub_push_start subject) s.old)).text out.new result) × ((s.new ≡ (lines.walk s.old (on (hub_push_start subject) s.old)).state) × (result ≤ 640)) }
+// The entries that a walk names, at most 128, while more follow.
+#[tactic(auto, using(crate::proofs::WalkLaws::walked_more, crate::proofs::WalkLaws::walked_end, crate::proofs::WalkLaws::walked_full))]
+fn put_names(s: &mut [u8], out: &mut Printed)
+    requires { array_string_len out.old ≤ 5 }
+    ensures text { out.new.bytes ≡ out.old.bytes ++ spaced (named 128 true s.old) }
+    ensures short { array_string_len out.new < 640 }
+    ensures state { s.new ≡ walked 128 true s.old }
 {
-    let a = hub_push_start(s, subject);
-    let i = put_head(out, b'W', a);
-    let k = put_names(s, out, i, more(a));
-    out[k] = b'\n';
-    k + 1
+    for _ in 0..ENTRIES {
+        let Ok(Some(pushed)) = hub_push_next(s) else {
+            return;
+        };
+        out.push(' ');
+        put_number(out, pushed.entry);
+        if !pushed.more {
+            return;
+        }
+    }
+}
+
+/// A walk: each entry on the subject.
+#[tactic(auto, unfolding(crate::specs::Lines::spaced, crate::specs::Lines::named, crate::specs::Lines::walked))]
+pub fn walk(s: &mut [u8], subject: u32) -> Printed
+    ensures text { result.bytes ++ 10 ∷ [] ≡ (lines.walk s.old (on (hub_push_start subject) s.old)).text }
+    ensures short { array_string_len result < 640 }
+    ensures state { s.new ≡ (lines.walk s.old (on (hub_push_start subject) s.old)).state }
+{
+    let started = hub_push_start(s, subject);
+    let mut out = head('W', started.err());
+    if let Ok(true) = started {
+        put_names(s, &mut out);
+    }
+    out
 }

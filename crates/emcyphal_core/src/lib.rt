@@ -314,7 +314,8 @@ impl Iterator for PrioritySetIterator {
     }
 }
 
-// The ids are four types, as in the source: of one type over its last number, no contract here would say which number is whose.
+// The ids are four types, as in the source. One type over its number of values would ask for a power of two, which the masks need, and
+// for a second type in 16 bits, and no contract here would say which number is whose.
 
 #[derive(Debug, Copy, Clone, PartialEq, Eq, PartialOrd, Ord)]
 pub struct NodeId(u8);

@@ -111,8 +111,8 @@ keeping_end gone t₀ t w i h b =
     let d : drop w K ≡ [] = h.rest ∙ ap (kept (stays gone)) (tree_end t₀ i b) in
     record { number = omega (arith, drop-nothing K w d, h.written.far); few = omega (arith, h.behind, h.far); written = h.written }
 
-pub part-long : (t : List ℕ) (a k : ℕ) → a + k ≤ length t → length (take k (drop a t)) ≡ k
-part-long t a k b = length-take-le k (drop a t) (omega (arith, length-drop a t))
+pub part_long : (t : List ℕ) (a k : ℕ) → a + k ≤ length t → length (take k (drop a t)) ≡ k
+part_long t a k b = length-take-le k (drop a t) (omega (arith, length-drop a t))
 
 -- the places that are left are filled
 module _ (t : List ℕ) (a k v : ℕ) (b : a + k ≤ length t) where
@@ -155,8 +155,8 @@ module _ (t : List ℕ) (a k v : ℕ) (b : a + k ≤ length t) where
   put-long : length F ≡ length t
   put-long = simp (length-append, length-drop) (omega (arith, long-take, length-replicate {A = ℕ} k v))
 
-pub marked-laid : (gone t : List ℕ) → IsTree t → (w : ℕ) (u : List ℕ) → Kept gone t u w → (a k : ℕ) → a ≡ 1 + 3 * w → a + k ≡ 1 + 3 * size t → (f : List ℕ) → f ≡ replicate k 255 → set (put_mid a k u f) 0 w ≡ laid (kept (stays gone) (read t)) t
-marked-laid gone t tree w u kept-all a k qa qk f qf =
+pub marked_laid : (gone t : List ℕ) → IsTree t → (w : ℕ) (u : List ℕ) → Kept gone t u w → (a k : ℕ) → a ≡ 1 + 3 * w → a + k ≡ 1 + 3 * size t → (f : List ℕ) → f ≡ replicate k 255 → set (put_mid a k u f) 0 w ≡ laid (kept (stays gone) (read t)) t
+marked_laid gone t tree w u kept-all a k qa qk f qf =
     let l = kept (stays gone) (read t) in
     let lt : length t ≡ tree_length = tree.len in
     let few : size t ≤ 128 = tree.few in
@@ -240,13 +240,13 @@ module _ (a b slots : List ℕ) where
     rest = refl;
   }
 
-  module _ (t₀ : List ℕ) (r : Mergeable t₀ a b slots) (t : List ℕ) (w i j : ℕ) (h : Merging t₀ t w i j) where
+  module _ (t₀ : List ℕ) (r : Mergeable t₀ a b slots) (places : length slots ≡ 128) (t : List ℕ) (w i j : ℕ) (h : Merging t₀ t w i j) where
     -- the pairs to come, the next of `b` among them
     to_come : j < size b → drop j (read b) ≡ pair_at b j ∷ drop (suc j) (read b)
     to_come c = tree_from b j c
 
     slot-first : j < size b → drop j slots ≡ get_or slots j 0 ∷ drop (suc j) slots
-    slot-first c = drop-cons slots j 0 (omega (arith, r.places, r.other.few))
+    slot-first c = drop-cons slots j 0 (omega (arith, places, r.other.few))
 
     filled-from : j < size b → filled (drop j slots) (drop j (read b)) ≡ cond (ltb (get_or slots j 0) 128) (pair (get_or slots j 0) (subject_at b j) ∷ filled (drop (suc j) slots) (drop (suc j) (read b))) (filled (drop (suc j) slots) (drop (suc j) (read b)))
     filled-from c = rw (to_come c, slot-first c) refl
@@ -279,8 +279,8 @@ module _ (a b slots : List ℕ) where
       first-is = h.rest ∙ ap (λ (l : List Pair). merged l (filled (drop j slots) (drop j (read b)))) (tree_from a i c)
           ∙ merged-first (pair_at a i) (drop (suc i) (read a)) (filled (drop j slots) (drop j (read b))) (order-rest (subject_at a i) f)
 
-      pub first-room : w < 128
-      first-room = omega (arith, h.fit, (drop-first M w (pair_at a i) (from (suc i) j) first-is).0)
+      pub first_room : w < 128
+      first_room = omega (arith, h.fit, (drop-first M w (pair_at a i) (from (suc i) j) first-is).0)
 
       pub first_goes : (e x : ℕ) → e ≡ entry_at a i → x ≡ subject_at a i → (v : List ℕ) → v ≡ set_cell t w (cell_of (pair e x)) → Merging t₀ v (w + 1) (i + 1) j
       first_goes e x qe qx v qv =
@@ -304,8 +304,8 @@ module _ (a b slots : List ℕ) where
         second_is = h.rest ∙ ap (merged (drop i (read a))) (filled-from c ∙ ap (λ (z : Bool). cond z (p ∷ filled (drop (suc j) slots) (drop (suc j) (read b))) (filled (drop (suc j) slots) (drop (suc j) (read b)))) (lt-ltb (get_or slots j 0) 128 s))
             ∙ merged-second p (drop i (read a)) (filled (drop (suc j) slots) (drop (suc j) (read b))) before_head (order-next c)
 
-        pub second-room : w < 128
-        second-room = omega (arith, h.fit, (drop-first M w p (from i (suc j)) second_is).0)
+        pub second_room : w < 128
+        second_room = omega (arith, h.fit, (drop-first M w p (from i (suc j)) second_is).0)
 
         pub second_goes : (e x : ℕ) → e ≡ get_or slots j 0 → x ≡ subject_at b j → (v : List ℕ) → v ≡ set_cell t w (cell_of (pair e x)) → Merging t₀ v (w + 1) i (j + 1)
         second_goes e x qe qx v qv =
@@ -325,8 +325,8 @@ module _ (a b slots : List ℕ) where
           }
 
     -- nothing is to come
-    pub all-written : size a + size b ≤ i + j → set t 0 w ≡ laid M t₀
-    all-written e =
+    pub all_written : size a + size b ≤ i + j → set t 0 w ≡ laid M t₀
+    all_written e =
         let d : drop w M ≡ [] = h.rest ∙ rw (tree_end a i (omega (arith, h.far-b)), tree_end b j (omega (arith, h.far-a)), filled_none (drop j slots)) refl in
         let n : w ≡ length M = omega (arith, drop-nothing M w d, h.written.far) in
         let lu : length t ≡ tree_length = h.written.len ∙ r.len in
@@ -340,3 +340,5 @@ module _ (a b slots : List ℕ) where
           rest = λ k c f. number_cell t w k ∙ h.written.left k (omega arith);
         })
         (laid-has M t₀ r.len h.fit)
+
+pub ruleset merging = (merging_none, comes_first, comes_second, first_room, second_room, all_written)

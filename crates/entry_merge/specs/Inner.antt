@@ -43,7 +43,6 @@ pub record Mergeable (t a b slots : List ℕ) : Type 0 where
   pub len : length t ≡ tree_length
   pub same : t ≡ a
   pub other : IsTree b
-  pub places : length slots ≡ 128
   pub room : size a + length (filled slots (read b)) ≤ 128
   pub order_a : in_order 0 (read a) ≡ true
   pub order_b : in_order 0 (read b) ≡ true

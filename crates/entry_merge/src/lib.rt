@@ -1,7 +1,7 @@
 // Trees that change in one pass: two become one, and marked pairs leave. Inner: these cross crates and may require.
 #![tactic(auto)]
 
-ghost use Rattle.std.specs.Prelude.{◌≡◌, ◌&&◌, ◌||◌, leb, ltb, length};
+ghost use Rattle.std.specs.Prelude.{◌≡◌, ◌&&◌, ◌||◌, leb, ltb};
 ghost use Rattle.entry_tree.specs.Places.{size, subject_at, read, laid};
 ghost use Rattle.entry_tree.specs.Inner.{IsTree};
 ghost use Rattle.entry_merge.specs.Inner.{Kept, Mergeable, kept, stays, filled, merged};
@@ -10,8 +10,9 @@ use entry_tree::{entry_at, len, subject_at, write_place};
 use state::fill;
 
 // Moves the pairs whose entries bear no mark to the front. How many they are.
-fn keep(t: &mut [u8], gone: &[u8]) -> usize
-    requires { IsTree t.old × (length gone.now ≡ 256) }
+#[tactic(auto, using(crate::proofs::Writing::keeping_end))]
+fn keep(t: &mut [u8], gone: &[u8; 256]) -> usize
+    requires { IsTree t.old }
     ensures { Kept gone.now t.old t.new result }
 {
     let mut w = 0;
@@ -27,8 +28,9 @@ fn keep(t: &mut [u8], gone: &[u8]) -> usize
 }
 
 // The pairs whose entries bear a mark leave.
-pub fn remove_marked(t: &mut [u8], gone: &[u8])
-    requires { IsTree t.old × (length gone.now ≡ 256) }
+#[tactic(auto, using(crate::proofs::Writing::marked_laid, crate::proofs::Writing::part_long))]
+pub fn remove_marked(t: &mut [u8], gone: &[u8; 256])
+    requires { IsTree t.old }
     ensures { t.new ≡ laid (kept (stays gone.now) (read t.old)) t.old }
 {
     let n = len(t);
@@ -46,15 +48,15 @@ fn comes_first(a: &[u8], b: &[u8], i: usize, j: usize) -> bool
 }
 
 // `t` is `a`; the entries of `slots` join it, each on the subject that `b` has at its place.
-pub fn merge(t: &mut [u8], a: &[u8], b: &[u8], slots: &[u8])
+#[tactic(auto, using(crate::proofs::Writing::merging))]
+pub fn merge(t: &mut [u8], a: &[u8], b: &[u8], slots: &[u8; 128])
     requires { Mergeable t.old a.now b.now slots.now }
     ensures { t.new ≡ laid (merged (read a.now) (filled slots.now (read b.now))) t.old }
 {
-    let end = len(a) + len(b);
     let mut w = 0;
     let mut i = 0;
     let mut j = 0;
-    while i + j < end {
+    for _ in 0..len(a) + len(b) {
         if comes_first(a, b, i, j) {
             write_place(t, w, entry_at(a, i), subject_at(a, i));
             i += 1;

@@ -53,8 +53,8 @@ module _ (t : List ℕ) (places : List (List ℕ)) (q : tree.read t ≡ map pair
       ∙ ap (λ (p : Pair). p ∷ drop (suc (i + 1)) (tree.read t))
       (sym (read_at t (i + 1) inside) ∙ ap (λ (l : List Pair). get_or l (i + 1) none) q ∙ get_or-map pair_of places (i + 1) b none h ∙ sym (ap pair_of at))
 
-  pub next-first : Some (get_or b 0 0) ≡ first (drop (suc i) (tree.read t))
-  next-first = sym (ap first after-place)
+  pub next_first : Some (get_or b 0 0) ≡ first (drop (suc i) (tree.read t))
+  next_first = sym (ap first after-place)
 
   module _ (s x : ℕ) (qs : s ≡ subject_at t i) (qx : x ≡ (pair_of b).subject) where
     next-is : next_on (subject_at t i) (drop (suc i) (tree.read t)) ≡ cond (ltb s x) None (Some (get_or b 0 0))
@@ -63,8 +63,8 @@ module _ (t : List ℕ) (places : List (List ℕ)) (q : tree.read t ≡ map pair
     pub next_past : s < x → None ≡ next_on (subject_at t i) (drop (suc i) (tree.read t))
     next_past l = sym (next-is ∙ rw (lt-ltb s x l) refl)
 
-    pub next-same : x ≤ s → Some (get_or b 0 0) ≡ next_on (subject_at t i) (drop (suc i) (tree.read t))
-    next-same l = sym (next-is ∙ rw (le-ltb s x l) refl)
+    pub next_same : x ≤ s → Some (get_or b 0 0) ≡ next_on (subject_at t i) (drop (suc i) (tree.read t))
+    next_same l = sym (next-is ∙ rw (le-ltb s x l) refl)
 
 -- ---- the place of an entry
 

@@ -8,7 +8,7 @@ use native.Mathlib.Decide.{dec_lt}
 use native.Mathlib.Nat.{not-suc-le-zero}
 use lib.ListN.{length, get_or, drop, replicate, length-append, length-drop, length-replicate, get_or-replicate, get_or-append}
 use lib.Seq.{ext_get_or, get_or-append-add, get_or-drop}
-use Rattle.state.specs.Result.{Bytes}
+use Rattle.state.specs.Outcome.{Bytes}
 use Rattle.entry_tree.specs.Pairs.{Pair, in_range}
 use Rattle.entry_tree.specs.Places.{size, taken, pair_at, read, places, laid}
 use Rattle.entry_tree.specs.Inner.{tree_length, Cell, cell_at, cell_of}

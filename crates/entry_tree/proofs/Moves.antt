@@ -12,7 +12,7 @@ use borrow.Author.Tests.{leb-true, leb-false, le-leb}
 use Rattle.std.specs.List.{CopiedTo, SameBelow, SameFrom}
 use Rattle.std.specs.List.Sorted.{IsPartitionedBy, IsPartitionPoint}
 use Rattle.std.proofs.lemmas.List.{get_or-map}
-use Rattle.state.specs.Result.{Bytes}
+use Rattle.state.specs.Outcome.{Bytes}
 use Rattle.entry_tree.specs.Pairs.{Pair, pair, inserted, in_order}
 use Rattle.entry_tree.specs.Places.{size, subject_at, read, laid}
 use Rattle.entry_tree.specs.Inner.{tree_length, IsUpperBound, pair_of, cell_at, cell_of, set_cell, removed_at}
@@ -95,8 +95,8 @@ module _ (t : List ℕ) (y : Bytes t) (len : length t ≡ tree_length) (few : si
         (λ i a. omega (arith, m.most, m.below i a, read-subject t i (omega (arith, m.most))))
         (λ a. let b : r < size t = omega (arith, read_length t) in omega (arith, m.above r (omega arith) b, read-subject t r b))
 
-    pub joined-laid : (n : ℕ) → n ≡ size t + 1 → (v : List ℕ) → v ≡ set_cell u r (cell_of (pair e x)) → set v 0 n ≡ laid (inserted (pair e x) (read t)) t
-    joined-laid n nq v vq =
+    pub joined_laid : (n : ℕ) → n ≡ size t + 1 → (v : List ℕ) → v ≡ set_cell u r (cell_of (pair e x)) → set v 0 n ≡ laid (inserted (pair e x) (read t)) t
+    joined_laid n nq v vq =
         let p = pair e x in
         let k = inserted p (read t) in
         let c = cell_of p in
@@ -131,9 +131,9 @@ module _ (t : List ℕ) (y : Bytes t) (len : length t ≡ tree_length) (few : si
 
 -- ---- the pair i leaves
 
-pub left-laid : (t : List ℕ) → Bytes t → length t ≡ tree_length → size t ≤ 128 → (i : ℕ) → i < size t → (n : ℕ) → n ≡ size t - 1 → (u : List ℕ) → Copied t u (suc i) i (n - i)
+pub left_laid : (t : List ℕ) → Bytes t → length t ≡ tree_length → size t ≤ 128 → (i : ℕ) → i < size t → (n : ℕ) → n ≡ size t - 1 → (u : List ℕ) → Copied t u (suc i) i (n - i)
     → (v : List ℕ) → v ≡ set_cell u n freed → set v 0 n ≡ laid (removed_at i (read t)) t
-left-laid t y len few i hi n nq u h v vq =
+left_laid t y len few i hi n nq u h v vq =
     let k = removed_at i (read t) in
     let w = set_cell u n freed in
     let lk : suc (length k) ≡ size t = removed-length i (read t) (omega (arith, read_length t)) ∙ read_length t in

@@ -8,7 +8,7 @@ use native.Mathlib.Decide.{ℕ_discrete, dec_lt}
 use lib.Dec.{leb}
 use lib.ListN.{length}
 use borrow.Author.Tests.{leb-true, le-leb}
-use Rattle.state.specs.Result.{Bytes}
+use Rattle.state.specs.Outcome.{Bytes}
 use Rattle.state.specs.Seq.{all_b, each, to_nat}
 use Rattle.state.proofs.Seq.{all_true, all-at}
 use Rattle.state.proofs.Tests.{and_l, and_r, and-true}

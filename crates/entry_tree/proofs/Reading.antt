@@ -14,9 +14,9 @@ use Rattle.std.specs.Simd.{first_chunks}
 use Rattle.std.proofs.lemmas.List.{length-map, get_or-map}
 use mir.Val.{Fits}
 use mir.Syntax.{w8}
-use Rattle.state.specs.Result.{Bytes}
+use Rattle.state.specs.Outcome.{Bytes}
 use Rattle.state.proofs.Seq.{length-each, get_d_each}
-use Rattle.entry_tree.specs.Pairs.{Pair, pair, any, is_entry, place_of}
+use Rattle.entry_tree.specs.Pairs.{Pair, pair, is_entry, on_subject, has_entry, has_subject, place_of}
 use Rattle.entry_tree.specs.Places.{size, entry_at, subject_at, pair_at, read}
 use Rattle.entry_tree.specs.Inner.{pair_of}
 use Rattle.entry_tree.proofs.Lists.{none, First, first_of, any-position, place-subject, place-from, from_first, from_next}
@@ -46,8 +46,8 @@ length-chunks zero s = refl
 length-chunks (suc k) s = ap suc (length-chunks k (drop 3 s))
 
 -- of the bytes past the first, which hold k places
-pub read-chunks : (t : List ℕ) (k n : ℕ) → n ≡ size t → n ≤ k → read t ≡ map pair_of (take n (first_chunks 3 k (take (length t - 1) (drop 1 t))))
-read-chunks t k n q m =
+pub read_chunks : (t : List ℕ) (k n : ℕ) → n ≡ size t → n ≤ k → read t ≡ map pair_of (take n (first_chunks 3 k (take (length t - 1) (drop 1 t))))
+read_chunks t k n q m =
     let rest : take (length t - 1) (drop 1 t) ≡ drop 1 t = take_all (length t - 1) (drop 1 t) (omega (arith, length-drop 1 t)) in
     let chunks = first_chunks 3 k (drop 1 t) in
     let long : length (take n chunks) ≡ n = length-take-le n chunks (omega (arith, length-chunks k (drop 1 t))) in
@@ -76,8 +76,11 @@ position-read test t places q = sym (ap (position test) q ∙ rw (first places, 
     first [] = refl
     first (x ∷ l) = ap (λ (n : ℕ). cond (not (test (pair_of x))) (1 + n) 0) (first l)
 
-pub read-any : (test : Pair → Bool) (t : List ℕ) → is_some (position test (read t)) ≡ any test (read t)
-read-any test t = any-position test (read t)
+pub entry_stands : (e : ℕ) (t : List ℕ) → has_entry e (read t) ≡ is_some (position (is_entry e) (read t))
+entry_stands e t = sym (any-position (is_entry e) (read t))
+
+pub subject_stands : (x : ℕ) (t : List ℕ) → has_subject x (read t) ≡ is_some (position (on_subject x) (read t))
+subject_stands x t = sym (any-position (on_subject x) (read t))
 
 -- ---- the place of an entry, and the last pair, in the bytes
 

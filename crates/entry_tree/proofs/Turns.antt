@@ -1,10 +1,10 @@
 -- What the loop that tests a tree's pairs keeps, one law for each way out.
 use Prim.Native.Nat.{ℕ, suc, ◌+◌, ◌<◌, ◌≤◌}
-use mathlib.Core.Path.{◌≡◌, refl, sym, ap, ◌∙◌}
+use mathlib.Core.Path.{◌≡◌, sym, ap, ◌∙◌}
 use mathlib.Core.List.{List, [], ◌∷◌, map}
 use mathlib.Core.Bool.{true, false}
 use native.Mathlib.Omega.{arith}
-use lib.ListN.{length, get_or, drop, length-set, drop_of_length-le}
+use lib.ListN.{length, get_or, drop, drop_of_length-le}
 use lib.Seq.{drop-cons}
 use Rattle.std.proofs.lemmas.List.{length-map, get_or-map}
 use Rattle.entry_tree.specs.Pairs.{Pair}
@@ -15,14 +15,10 @@ use Rattle.entry_tree.proofs.Lists.{none}
 
 -- the pairs of the first i places are tested
 pub record Turn (c : Check) (places : List (List ℕ)) (seen₀ seen : List ℕ) (from i : ℕ) : Type 0 where
-  pub long : length seen ≡ 256
   pub test : pairs_b c seen₀ 0 (map pair_of places) ≡ pairs_b c seen from (drop i (map pair_of places))
   pub marks : seen_after c.met seen₀ (map pair_of places) ≡ seen_after c.met seen (drop i (map pair_of places))
 
 module _ (c : Check) (places : List (List ℕ)) (seen₀ : List ℕ) where
-  pub turn_first : length seen₀ ≡ 256 → Turn c places seen₀ seen₀ 0 0
-  turn_first l = record { long = l; test = refl; marks = refl }
-
   next-pair : (i : ℕ) (d : List ℕ) → i < length places → drop i (map pair_of places) ≡ pair_of (get_or places i d) ∷ drop (suc i) (map pair_of places)
   next-pair i d h =
       drop-cons (map pair_of places) i none (omega (arith, length-map places pair_of))
@@ -42,7 +38,6 @@ module _ (c : Check) (places : List (List ℕ)) (seen₀ : List ℕ) where
         let b : i + 1 ≡ suc i = omega arith in
         rw (a, b)
         (record {
-          long = length-set seen (2 + p.entry) c.met ∙ h.long;
           test = h.test ∙ ap (pairs_b c seen from) (next-pair i d l) ∙ rw f;
           marks = h.marks ∙ ap (seen_after c.met seen) (next-pair i d l);
         })

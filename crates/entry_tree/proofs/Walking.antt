@@ -19,6 +19,7 @@ use Rattle.entry_tree.specs.Inner.{with_walk, with_walk_past}
 use Rattle.entry_tree.proofs.Lists.{none as no-pair, First, first_of, not-placed}
 use Rattle.entry_tree.proofs.Reading.{read_length, read_at}
 use Rattle.entry_tree.proofs.Changes.{without-count-other}
+use Rattle.entry_tree.proofs.Finding.{place_in}
 use Rattle.entry_tree.proofs.Count.{same, diff, compare_eq, any_false, count-self, not_there}
 
 -- ---- starting
@@ -42,6 +43,8 @@ module _ (t : List ℕ) (x : ℕ) where
 
   pub start_none : position (on_subject x) (read t) ≡ None → None ≡ first_on x (read t)
   start_none q = sym (first-none x (read t) (any_false (on_subject x) (read t) (not-placed (on_subject x) (read t) q)))
+
+pub ruleset starts = (start-at, start_none, place_in)
 
 -- ---- going on
 

@@ -1,4 +1,6 @@
 // `RBTree` of entries by subject, as an ordered array in 385 lent bytes. Inner: these cross crates and may require.
+// `IsTree` and the length are required, and no struct carries them: it would be made anew from a part of a state's bytes for each call,
+// which asks for the same.
 #![tactic(auto)]
 
 pub mod walk;
@@ -33,6 +35,7 @@ pub fn subject_at(t: &[u8], i: usize) -> u16
 }
 
 // The pairs: each an entry, and its subject, low byte first.
+#[tactic(auto, using(crate::proofs::Reading::read_chunks))]
 fn pairs(t: &[u8]) -> &[[u8; 3]]
     requires { IsTree t.now }
     ensures { read t.now ≡ map pair_of result.now }
@@ -47,24 +50,12 @@ fn subject_of(pair: &[u8; 3]) -> u16
     u16::from_le_bytes([pair[1], pair[2]])
 }
 
-fn position_in(pairs: &[[u8; 3]], entry: u8) -> Option<usize>
-    ensures { result ≡ position (λ p. is_entry «entry» (pair_of p)) pairs.now }
-{
-    pairs.iter().position(|pair| entry == pair[0])
-}
-
-fn first_in(pairs: &[[u8; 3]], subject: u16) -> Option<usize>
-    ensures { result ≡ position (λ p. on_subject subject (pair_of p)) pairs.now }
-{
-    pairs.iter().position(|pair| subject == subject_of(pair))
-}
-
-// The place of the entry.
+// The place of the entry. This search and the next differ in their test alone: one function that takes the test would need a contract over it, longer than both.
 pub fn position(t: &[u8], entry: u8) -> Option<usize>
     requires { IsTree t.now }
     ensures { result ≡ position (is_entry «entry») (read t.now) }
 {
-    position_in(pairs(t), entry)
+    pairs(t).iter().position(|pair| entry == pair[0])
 }
 
 // The place of the first pair on the subject.
@@ -72,9 +63,10 @@ pub fn first_on(t: &[u8], subject: u16) -> Option<usize>
     requires { IsTree t.now }
     ensures { result ≡ position (on_subject subject) (read t.now) }
 {
-    first_in(pairs(t), subject)
+    pairs(t).iter().position(|pair| subject == subject_of(pair))
 }
 
+#[tactic(auto, using(crate::proofs::Reading::entry_stands))]
 pub fn has_entry(t: &[u8], entry: u8) -> bool
     requires { IsTree t.now }
     ensures { result ≡ has_entry «entry» (read t.now) }
@@ -82,6 +74,7 @@ pub fn has_entry(t: &[u8], entry: u8) -> bool
     position(t, entry).is_some()
 }
 
+#[tactic(auto, using(crate::proofs::Reading::subject_stands))]
 pub fn has_subject(t: &[u8], subject: u16) -> bool
     requires { IsTree t.now }
     ensures { result ≡ has_subject subject (read t.now) }
@@ -117,6 +110,7 @@ fn upper_bound(t: &[u8], subject: u16) -> usize
 
 // The pair joins, after its equals. One copy of the code for all callers, for the archive's bound.
 #[inline(never)]
+#[tactic(auto, using(crate::proofs::Moves::copied, crate::proofs::Moves::joined_laid))]
 pub fn insert(t: &mut [u8], entry: u8, subject: u16)
     requires { (length t.old ≡ tree_length) × ((size t.old < 128) × (in_order 0 (read t.old) ≡ true)) }
     ensures { t.new ≡ laid (inserted (pair entry subject) (read t.old)) t.old }
@@ -130,6 +124,7 @@ pub fn insert(t: &mut [u8], entry: u8, subject: u16)
 
 // The pair at the place i leaves. One copy of the code for all callers, for the archive's bound.
 #[inline(never)]
+#[tactic(auto, using(crate::proofs::Moves::copied, crate::proofs::Moves::left_laid))]
 pub fn remove(t: &mut [u8], i: usize)
     requires { IsTree t.old × (i < size t.old) }
     ensures { t.new ≡ laid (removed_at i (read t.old)) t.old }

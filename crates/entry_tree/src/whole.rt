@@ -1,5 +1,5 @@
 // The test of a tree's pairs, in one pass. Inner: these cross crates and may require.
-ghost use Rattle.std.specs.Prelude.{◌≡◌, ◌≤◌, length, replicate};
+ghost use Rattle.std.specs.Prelude.{◌≡◌, ◌≤◌, replicate};
 ghost use Rattle.entry_tree.specs.Places.{read};
 ghost use Rattle.entry_tree.specs.Inner.{IsTree, pair_of};
 ghost use Rattle.entry_tree.specs.Walks.{walk_of};
@@ -19,8 +19,8 @@ pub struct Check {
 }
 
 // `from` is the first subject past the pair before this one.
-fn pair_ok(pair: &[u8; 3], seen: &[u8], from: u16, check: Check) -> bool
-    requires { (length seen.now ≡ 256) × (check.most ≤ 8191) }
+fn pair_ok(pair: &[u8; 3], seen: &[u8; 256], from: u16, check: Check) -> bool
+    requires { check.most ≤ 8191 }
     ensures { result ≡ pair_b check seen.now «from» (pair_of pair.now) }
 {
     let entry = pair[0];
@@ -37,8 +37,9 @@ fn pair_ok(pair: &[u8; 3], seen: &[u8], from: u16, check: Check) -> bool
 }
 
 // Every pair is in range, in order, and met once.
-pub fn pairs_ok(t: &[u8], seen: &mut [u8], check: Check) -> bool
-    requires { IsTree t.now × ((length seen.old ≡ 256) × (check.most ≤ 8191)) }
+#[tactic(auto, using(crate::proofs::Turns::turn_fails, crate::proofs::Turns::turn_end, crate::proofs::Turns::failed))]
+pub fn pairs_ok(t: &[u8], seen: &mut [u8; 256], check: Check) -> bool
+    requires { IsTree t.now × (check.most ≤ 8191) }
     ensures { Passed check seen.old seen.new (read t.now) result }
 {
     let mut from = 0;
@@ -53,7 +54,7 @@ pub fn pairs_ok(t: &[u8], seen: &mut [u8], check: Check) -> bool
 }
 
 // A tree by itself: the pairs are in range and in order, and no entry stands twice. Each entry's mark becomes 3.
-pub fn pairs_fit(t: &[u8], seen: &mut [u8], most: u16, same: bool) -> bool
+pub fn pairs_fit(t: &[u8], seen: &mut [u8; 256], most: u16, same: bool) -> bool
     requires { IsTree t.now × ((seen.old ≡ replicate 256 0) × (most ≤ 8191)) }
     ensures { Fit most same seen.new (read t.now) result }
 {
@@ -68,8 +69,7 @@ pub fn pairs_fit(t: &[u8], seen: &mut [u8], most: u16, same: bool) -> bool
 }
 
 // The walk's byte points at none, or at an entry met with the mark 3.
-pub fn pointed(seen: &[u8], w: u8) -> bool
-    requires { length seen.now ≡ 256 }
+pub fn pointed(seen: &[u8; 256], w: u8) -> bool
     ensures { result ≡ pointed_b seen.now (walk_of w) }
 {
     127 < w || seen[2 + usize::from(w)] == 3

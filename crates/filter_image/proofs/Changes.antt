@@ -9,7 +9,7 @@ use lib.Bits.{bit_and, bit_or}
 use lib.Dec.{eqb, leb}
 use lib.ListN.{length, get_or, set}
 use borrow.Author.Tests.{eq-eqb, ne_eqb, le-leb, lt-leb}
-use Rattle.state.specs.Result.{Bytes}
+use Rattle.state.specs.Outcome.{Bytes}
 use Rattle.emcyphal_core.specs.Sets.{has, bits, set_of}
 use Rattle.emcyphal_core.proofs.Tables.{agree2}
 use Rattle.emcyphal_core.proofs.Laws.{same, of_members, meet, join, only}
@@ -62,9 +62,9 @@ leb-add n a b = elim (dec_lt b a) [
   | no h ↦ rw (le-leb a b (omega arith), le-leb (n + a) (n + b) (omega arith))
 ]
 
-pub cleared-bits : (b : List ℕ) (i l h : ℕ) → length b ≡ 1024 → Bytes b → i < 1024 → l < 8 → h < 8
+pub cleared_bits : (b : List ℕ) (i l h : ℕ) → length b ≡ 1024 → Bytes b → i < 1024 → l < 8 → h < 8
     → set b i (bit_and (get_or b i 0) (kept l h)) ≡ image_of (without_range (8 * i + l) (8 * i + h) (holds b))
-cleared-bits b i l h n y a lb hb =
+cleared_bits b i l h n y a lb hb =
     let v = get_or b i 0 in
     let m = kept l h in
     let f : Subjects = λ p. not (leb l p && leb p h) in
@@ -103,8 +103,8 @@ joined b a m n z e h k =
 
 -- ---- the bytes within a range, one by one
 
-pub cleared-none : (b : List ℕ) (i : ℕ) → length b ≡ 1024 → Bytes b → 0 < i → b ≡ image_of (without_range (8 * i) (8 * i - 1) (holds b))
-cleared-none b i n y h = sym (image_holds b n y) ∙ image-same (holds b) (without_range (8 * i) (8 * i - 1) (holds b)) (λ x l. sym (out (8 * i) (8 * i - 1) (holds b) x (λ p q. omega arith)))
+pub cleared_none : (b : List ℕ) (i : ℕ) → length b ≡ 1024 → Bytes b → 0 < i → b ≡ image_of (without_range (8 * i) (8 * i - 1) (holds b))
+cleared_none b i n y h = sym (image_holds b n y) ∙ image-same (holds b) (without_range (8 * i) (8 * i - 1) (holds b)) (λ x l. sym (out (8 * i) (8 * i - 1) (holds b) x (λ p q. omega arith)))
 
 pub cleared_more : (b t : List ℕ) (first i : ℕ) → 0 < first → first ≤ i → i < 1024 → t ≡ image_of (without_range (8 * first) (8 * i - 1) (holds b))
     → set t i 0 ≡ image_of (without_range (8 * first) (8 * (i + 1) - 1) (holds b))
@@ -118,17 +118,17 @@ cleared_more b t first i h k l e =
 
 -- ---- a whole range: within one byte, or over more
 
-pub cleared-one : (b t : List ℕ) (a z : ℕ) → a / 8 ≡ z / 8 → t ≡ image_of (without_range (8 * (a / 8) + a % 8) (8 * (a / 8) + z % 8) (holds b))
+pub cleared_one : (b t : List ℕ) (a z : ℕ) → a / 8 ≡ z / 8 → t ≡ image_of (without_range (8 * (a / 8) + a % 8) (8 * (a / 8) + z % 8) (holds b))
     → t ≡ image_of (without_range a z (holds b))
-cleared-one b t a z e h =
+cleared_one b t a z e h =
     let p : 8 * (a / 8) + a % 8 ≡ a = omega arith in
     let q : 8 * (a / 8) + z % 8 ≡ z = omega arith in
     h ∙ rw (p, q)
 
-pub cleared-over : (b t u v : List ℕ) (a z : ℕ) → a / 8 < z / 8 → t ≡ image_of (without_range (8 * (a / 8) + a % 8) (8 * (a / 8) + 7) (holds b))
+pub cleared_over : (b t u v : List ℕ) (a z : ℕ) → a / 8 < z / 8 → t ≡ image_of (without_range (8 * (a / 8) + a % 8) (8 * (a / 8) + 7) (holds b))
     → u ≡ image_of (without_range (8 * (a / 8 + 1)) (8 * (z / 8) - 1) (holds t)) → v ≡ image_of (without_range (8 * (z / 8) + 0) (8 * (z / 8) + z % 8) (holds u))
     → v ≡ image_of (without_range a z (holds b))
-cleared-over b t u v a z l x y w =
+cleared_over b t u v a z l x y w =
     let p : 8 * (a / 8) + a % 8 ≡ a = omega arith in
     let q : 8 * (z / 8) + z % 8 ≡ z = omega arith in
     let e : t ≡ image_of (without_range a (8 * (a / 8) + 7) (holds b)) = x ∙ rw p in

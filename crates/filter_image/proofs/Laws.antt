@@ -11,7 +11,7 @@ use borrow.Author.Tests.{eq-eqb}
 use lib.Dec.{lit<}
 use lib.ListN.{length, get_or, set, replicate, get_or-eq_default}
 use Rattle.state.specs.Seq.{each}
-use Rattle.state.specs.Result.{Bytes}
+use Rattle.state.specs.Outcome.{Bytes}
 use Rattle.state.proofs.Seq.{get_d_each, length-each, each_get_d, each_same, set-each}
 use Rattle.emcyphal_core.specs.Sets.{has, bits, set_of}
 use Rattle.emcyphal_core.proofs.Laws.{member, small, whole, same}

@@ -3,7 +3,6 @@
 
 ghost use Rattle.std.specs.Prelude.{◌≡◌, false, ℕ, ◌+◌, ◌-◌, ◌*◌, ◌<◌, ◌≤◌, length};
 ghost use Rattle.state.specs.Outcome.{answer};
-ghost use Rattle.state.specs.Result.{Bytes};
 ghost use Rattle.filter_image.specs.Inner.{checked};
 ghost use Rattle.filter_image.specs.Image.{holds, image_of, none, without_range, bytes, opening, add_subject, remove_subject_range, has_subject};
 
@@ -47,11 +46,12 @@ pub fn add_subject(s: &mut [u8], subject: u32) -> Result<(), Refusal>
     check(s, subject)?;
     let x = subject as usize;
     let i = x / 8;
-    s[i] = s[i] | (1u8 << (x % 8));
+    s[i] |= 1u8 << (x % 8);
     Ok(())
 }
 
 // Takes out the subjects of byte i at its bits l to h.
+#[tactic(auto, using(crate::proofs::Changes::cleared_bits))]
 fn clear_bits(s: &mut [u8], i: usize, l: usize, h: usize)
     requires { (length s.old ≡ 1024) × ((i < 1024) × ((l < 8) × (h < 8))) }
     ensures { s.new ≡ image_of (without_range (8 * i + l) (8 * i + h) (holds s.old)) }
@@ -60,8 +60,9 @@ fn clear_bits(s: &mut [u8], i: usize, l: usize, h: usize)
 }
 
 // Takes out the subjects of the bytes from `first` on, up to and without `end`.
+#[tactic(auto, using(crate::proofs::Changes::cleared_none, crate::proofs::Changes::cleared_more))]
 fn clear_bytes(s: &mut [u8], first: usize, end: usize)
-    requires { (length s.old ≡ 1024) × (Bytes s.old × ((0 < first) × ((first ≤ end) × (end ≤ 1024)))) }
+    requires { (length s.old ≡ 1024) × ((0 < first) × ((first ≤ end) × (end ≤ 1024))) }
     ensures { s.new ≡ image_of (without_range (8 * first) (8 * end - 1) (holds s.old)) }
 {
     for i in first..end {
@@ -70,6 +71,7 @@ fn clear_bytes(s: &mut [u8], first: usize, end: usize)
 }
 
 // Takes out the subjects a to z.
+#[tactic(auto, using(crate::proofs::Changes::cleared_one, crate::proofs::Changes::cleared_over))]
 fn clear(s: &mut [u8], a: usize, z: usize)
     requires { (length s.old ≡ 1024) × ((a ≤ z) × (z < 8192)) }
     ensures { s.new ≡ image_of (without_range a z (holds s.old)) }

@@ -7,14 +7,11 @@ use Rattle.state.specs.declared.Refusal.{Refusal}
 use Rattle.state.specs.declared.Refusal.TheVariants.{NotTaken}
 use Rattle.emcyphal_core.specs.Priorities as priorities
 use Rattle.emcyphal_core.specs.declared.Priority.{Priority}
-use Rattle.regular.specs.declared.Answer as regular
-use Rattle.regular.specs.declared.Answer.TheVariants as regular-says
-use Rattle.loop_back.specs.declared.Answer as loop-back
-use Rattle.loop_back.specs.declared.Answer.TheVariants as loop-back-says
-use Rattle.rx_req.specs.declared.Answer as request
-use Rattle.rx_req.specs.declared.Answer.TheVariants as request-says
-use Rattle.tx_queue.specs.declared.Answer as transmit
-use Rattle.tx_queue.specs.declared.Answer.TheVariants as transmit-says
+use Rattle.entry_tree.specs.declared.walk.Pushed.{Pushed}
+use Rattle.regular.specs.declared.FilterUpdate.{FilterUpdate}
+use Rattle.regular.specs.declared.FilterUpdate.TheVariants.{AddSubject, RemoveSubjectRange}
+use Rattle.tx_queue.specs.declared.Picked.{Picked}
+use Rattle.tx_queue.specs.declared.Settled.{Settled}
 
 unfoldable pub packed : ℕ → ℕ → ℕ → ℕ → ℕ
 packed number what first second = number + 256 * what + 65536 * first + 4294967296 * second
@@ -61,41 +58,25 @@ abbrev pub option_second : Option ℕ → ℕ
 option_second (Some x) = packed 0 1 0 x
 option_second None = packed 0 0 0 0
 
--- the regular registry's answer: what 1 is a wake, an entry pointed at or named, or an added subject; what 2 is a removed range
-abbrev pub regular_answer : regular.Answer → ℕ
-regular_answer (regular-says.Refused n) = packed n 0 0 0
-regular_answer regular-says.Done = packed 0 0 0 0
-regular_answer (regular-says.Accepted b) = packed 0 (to_nat b) 0 0
-regular_answer (regular-says.AddSubject x) = packed 0 1 x 0
-regular_answer (regular-says.RemoveSubjectRange a b) = packed 0 2 a b
-regular_answer regular-says.Nothing = packed 0 0 0 0
-regular_answer (regular-says.Started b) = packed 0 (to_nat b) 0 0
-regular_answer (regular-says.Pushed e more) = packed 0 1 e (to_nat more)
-regular_answer regular-says.NotPushed = packed 0 0 0 0
+-- a step of a walk: what 1, the entry first and 1 second where more follow, or what 0
+abbrev pub pushed : Option Pushed → ℕ
+pushed (Some p) = packed 0 1 p.entry (to_nat p.more)
+pushed None = packed 0 0 0 0
 
--- the loop-back registry's answer: what 1 is an entry pointed at or named
-abbrev pub loop_back_answer : loop-back.Answer → ℕ
-loop_back_answer (loop-back-says.Refused n) = packed n 0 0 0
-loop_back_answer loop-back-says.Done = packed 0 0 0 0
-loop_back_answer (loop-back-says.Started b) = packed 0 (to_nat b) 0 0
-loop_back_answer (loop-back-says.Pushed e more) = packed 0 1 e (to_nat more)
-loop_back_answer loop-back-says.NotPushed = packed 0 0 0 0
+-- a poll: what 1 and the subject added first, what 2 and the ends of the removed range, or what 0
+abbrev pub updates : Option FilterUpdate → ℕ
+updates (Some (AddSubject x)) = packed 0 1 x 0
+updates (Some (RemoveSubjectRange a b)) = packed 0 2 a b
+updates None = packed 0 0 0 0
 
--- the request registry's answer: what 1 is an entry that gets the frame
-abbrev pub request_answer : request.Answer → ℕ
-request_answer (request-says.Refused n) = packed n 0 0 0
-request_answer request-says.Done = packed 0 0 0 0
-request_answer (request-says.Pushed e) = packed 0 1 e 0
-request_answer request-says.NotPushed = packed 0 0 0 0
+-- a pick: what 1, the entry first and its priority second, or what 0
+abbrev pub picked : Option Picked → ℕ
+picked (Some p) = packed 0 1 p.entry (priorities.number p.priority)
+picked None = packed 0 0 0 0
 
--- a transmit registry's answer: what 1 is a wake, or an entry picked, whose priority is second
-abbrev pub transmit_answer : transmit.Answer → ℕ
-transmit_answer (transmit-says.Refused n) = packed n 0 0 0
-transmit_answer transmit-says.Done = packed 0 0 0 0
-transmit_answer (transmit-says.Accepted b) = packed 0 (to_nat b) 0 0
-transmit_answer (transmit-says.Picked e p) = packed 0 1 e p
-transmit_answer transmit-says.Nothing = packed 0 0 0 0
-transmit_answer (transmit-says.Settled e b) = packed 0 (to_nat b) e 0
+-- a settlement: what is 1 where it wakes, and the entry first
+abbrev pub settled : Settled → ℕ
+settled s = packed 0 (to_nat s.wake) s.entry 0
 
 abbrev pub priority_answer : Option Priority → ℕ
 priority_answer (Some p) = packed 0 1 (priorities.number p) 0

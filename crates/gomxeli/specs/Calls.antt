@@ -1,7 +1,5 @@
 -- Every exported call on state bytes: what it answers, and the bytes that it leaves.
 use Rattle.std.specs.Prelude.{ℕ, not, List, [], ◌∷◌, eqb, length}
-use Rattle.state.specs.Result as state
-use Rattle.state.specs.Result.{Result}
 use Rattle.state.specs.Outcome as outcome
 use Rattle.multi_class_queue.specs.Calls as mcq
 use Rattle.index_queue.specs.Calls as iq
@@ -16,19 +14,11 @@ use Rattle.tx_queue.specs.Steps.{reported}
 use Rattle.tx_queue.specs.Calls as txr
 use Rattle.tx_msg.specs.Steps as txm_steps
 use Rattle.tx_msg.specs.Calls as txm
-use Rattle.gomxeli.specs.Answers.{answered, done, flag, option_first, option_second, regular_answer, loop_back_answer, request_answer, transmit_answer}
+use Rattle.gomxeli.specs.Answers.{answered, done, flag, option_first, option_second, pushed, updates, picked, settled}
 
 pub record Outcome : Type 0 where
   pub answer : ℕ
   pub bytes : List ℕ
-
--- a call that reads: the answer's number, and the bytes b as they were
-abbrev pub asks : {A M : Type 0} → (A → ℕ) → List ℕ → Result A M → Outcome
-asks number b r = record { answer = number (state.answer r); bytes = b }
-
--- a call that writes: `after b r` are the bytes that the result r makes of b
-abbrev pub changes : {A M : Type 0} → (A → ℕ) → (List ℕ → Result A M → List ℕ) → List ℕ → Result A M → Outcome
-changes number after b r = record { answer = number (state.answer r); bytes = after b r }
 
 -- a call that reads: the answer's number, by the fields of its value, and the bytes b as they were
 abbrev pub reads : {A M : Type 0} → (A → ℕ) → List ℕ → outcome.Outcome A M → Outcome
@@ -81,33 +71,33 @@ does IqBack b = reads option_first b (iq.on iq.back b)
 does (IqEnqueueFront k) b = writes done iq.bytes b (iq.on (iq.enqueue_front k) b)
 does (IqEnqueueBack k) b = writes done iq.bytes b (iq.on (iq.enqueue_back k) b)
 does (IqDequeue k) b = writes done iq.bytes b (iq.on (iq.dequeue k) b)
-does (RegOpen n) b = changes regular_answer regular.opened_bytes b (regular.opening (length b) n)
-does (RegRegister e x) b = changes regular_answer regular.bytes b (regular.on (steps.register e x) b)
-does (RegUnregister e) b = changes regular_answer regular.bytes b (regular.on (steps.unregister e) b)
-does RegPollPop b = changes regular_answer regular.bytes b (regular.on steps.poll_pop b)
-does (RegHubPushStart x) b = changes regular_answer regular.bytes b (regular.on (steps.hub_push_start x) b)
-does RegHubPushNext b = changes regular_answer regular.bytes b (regular.on steps.hub_push_next b)
-does LbOpen b = changes loop_back_answer lb.opened_bytes b (lb.opening (length b))
-does (LbRegister e x) b = changes loop_back_answer lb.bytes b (lb.on (lb_steps.register e x) b)
-does (LbUnregister e) b = changes loop_back_answer lb.bytes b (lb.on (lb_steps.unregister e) b)
-does (LbHubPushStart x) b = changes loop_back_answer lb.bytes b (lb.on (lb_steps.hub_push_start x) b)
-does LbHubPushNext b = changes loop_back_answer lb.bytes b (lb.on lb_steps.hub_push_next b)
-does ReqOpen b = changes request_answer req.opened_bytes b (req.opening (length b))
-does (ReqRegister e x) b = changes request_answer req.bytes b (req.on (req_steps.register e x) b)
-does (ReqUnregister e) b = changes request_answer req.bytes b (req.on (req_steps.unregister e) b)
-does (ReqPollPush x loop_back) b = asks request_answer b (req.on (req_steps.poll_push x (not (eqb loop_back 0))) b)
-does TxmOpen b = changes transmit_answer txm.opened_bytes b (txm.opening (length b))
-does (TxmRegister e x r) b = changes transmit_answer txm.bytes b (txm.on (txm_steps.register e x r) b)
-does (TxmUnregister e) b = changes transmit_answer txm.bytes b (txm.on (txm_steps.unregister e) b)
-does (TxmUpdate e r) b = changes transmit_answer txm.bytes b (txm.on (txm_steps.update e r) b)
-does (TxmPick mask mtu) b = changes transmit_answer txm.bytes b (txm.on (txm_steps.pick mask mtu) b)
-does (TxmSettle frame r p n last) b = changes transmit_answer txm.bytes b (txm.on (txm_steps.settle (reported (not (eqb frame 0)) p n last) r) b)
-does TxrOpen b = changes transmit_answer txr.opened_bytes b (txr.opening (length b))
-does (TxrRegister e r) b = changes transmit_answer txr.bytes b (txr.on (txr_steps.register e r) b)
-does (TxrUnregister e) b = changes transmit_answer txr.bytes b (txr.on (txr_steps.unregister e) b)
-does (TxrUpdate e r) b = changes transmit_answer txr.bytes b (txr.on (txr_steps.update e r) b)
-does (TxrPick mask mtu) b = changes transmit_answer txr.bytes b (txr.on (txr_steps.pick mask mtu) b)
-does (TxrSettle frame r p n last) b = changes transmit_answer txr.bytes b (txr.on (txr_steps.settle (reported (not (eqb frame 0)) p n last) r) b)
+does (RegOpen n) b = writes done regular.opened_bytes b (regular.opening (length b) n)
+does (RegRegister e x) b = writes flag regular.bytes b (regular.on (steps.register e x) b)
+does (RegUnregister e) b = writes flag regular.bytes b (regular.on (steps.unregister e) b)
+does RegPollPop b = writes updates regular.bytes b (regular.on steps.poll_pop b)
+does (RegHubPushStart x) b = writes flag regular.bytes b (regular.on (steps.hub_push_start x) b)
+does RegHubPushNext b = writes pushed regular.bytes b (regular.on steps.hub_push_next b)
+does LbOpen b = writes done lb.opened_bytes b (lb.opening (length b))
+does (LbRegister e x) b = writes done lb.bytes b (lb.on (lb_steps.register e x) b)
+does (LbUnregister e) b = writes done lb.bytes b (lb.on (lb_steps.unregister e) b)
+does (LbHubPushStart x) b = writes flag lb.bytes b (lb.on (lb_steps.hub_push_start x) b)
+does LbHubPushNext b = writes pushed lb.bytes b (lb.on lb_steps.hub_push_next b)
+does ReqOpen b = writes done req.opened_bytes b (req.opening (length b))
+does (ReqRegister e x) b = writes done req.bytes b (req.on (req_steps.register e x) b)
+does (ReqUnregister e) b = writes done req.bytes b (req.on (req_steps.unregister e) b)
+does (ReqPollPush x loop_back) b = reads option_first b (req.on (req_steps.poll_push x (not (eqb loop_back 0))) b)
+does TxmOpen b = writes done txm.opened_bytes b (txm.opening (length b))
+does (TxmRegister e x r) b = writes flag txm.bytes b (txm.on (txm_steps.register e x r) b)
+does (TxmUnregister e) b = writes flag txm.bytes b (txm.on (txm_steps.unregister e) b)
+does (TxmUpdate e r) b = writes flag txm.bytes b (txm.on (txm_steps.update e r) b)
+does (TxmPick mask mtu) b = writes picked txm.bytes b (txm.on (txm_steps.pick mask mtu) b)
+does (TxmSettle frame r p n last) b = writes settled txm.bytes b (txm.on (txm_steps.settle (reported (not (eqb frame 0)) p n last) r) b)
+does TxrOpen b = writes done txr.opened_bytes b (txr.opening (length b))
+does (TxrRegister e r) b = writes flag txr.bytes b (txr.on (txr_steps.register e r) b)
+does (TxrUnregister e) b = writes flag txr.bytes b (txr.on (txr_steps.unregister e) b)
+does (TxrUpdate e r) b = writes flag txr.bytes b (txr.on (txr_steps.update e r) b)
+does (TxrPick mask mtu) b = writes picked txr.bytes b (txr.on (txr_steps.pick mask mtu) b)
+does (TxrSettle frame r p n last) b = writes settled txr.bytes b (txr.on (txr_steps.settle (reported (not (eqb frame 0)) p n last) r) b)
 
 -- the answers of calls one after the other, and the bytes that they leave
 unfoldable pub run : List Call → List ℕ → List ℕ

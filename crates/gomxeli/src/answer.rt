@@ -1,10 +1,13 @@
 // Answers as one number each, laid out as specs/Answers.antt has it.
 ghost use Rattle.std.specs.Prelude.{◌≡◌, ℕ};
 ghost use Rattle.state.specs.Seq.{to_nat};
-ghost use Rattle.gomxeli.specs.Answers.{packed, done, flag, answered, option_first, option_second, regular_answer, loop_back_answer, request_answer, transmit_answer, priority_answer, eot_answer};
+ghost use Rattle.gomxeli.specs.Answers.{packed, done, flag, answered, option_first, option_second, pushed, updates, picked, settled, priority_answer, eot_answer};
 
 use emcyphal_core::{Priority, PrioritySet};
+use entry_tree::walk::Pushed;
+use regular::FilterUpdate;
 use state::Refusal;
+use tx_queue::{Picked, Settled};
 
 /// What C gets of an answer: one number.
 pub trait Answer {
@@ -26,7 +29,7 @@ impl Answer for bool {
     ghost packed = { flag };
 
     fn pack(self) -> u64 {
-        holds(self)
+        pack(0, u8::from(self), 0, 0)
     }
 }
 
@@ -61,6 +64,107 @@ impl Answer for Option<u32> {
     }
 }
 
+// The entry is the first field, and the second is 1 where more follow.
+impl Answer for Option<Pushed> {
+    ghost packed = { pushed };
+
+    fn pack(self) -> u64 {
+        match self {
+            Some(pushed) => pack(0, 1, u16::from(pushed.entry), u32::from(pushed.more)),
+            None => pack(0, 0, 0, 0),
+        }
+    }
+}
+
+// The subject added is the first field; of a range removed, the first subject and the last are the two.
+impl Answer for Option<FilterUpdate> {
+    ghost packed = { updates };
+
+    fn pack(self) -> u64 {
+        match self {
+            Some(FilterUpdate::AddSubject(subject)) => pack(0, 1, subject, 0),
+            Some(FilterUpdate::RemoveSubjectRange(first, last)) => {
+                pack(0, 2, first, u32::from(last))
+            }
+            None => pack(0, 0, 0, 0),
+        }
+    }
+}
+
+// The entry is the first field, and its priority the second.
+impl Answer for Option<Picked> {
+    ghost packed = { picked };
+
+    fn pack(self) -> u64 {
+        match self {
+            Some(picked) => pack(
+                0,
+                1,
+                u16::from(picked.entry),
+                u32::from(picked.priority.into_u8()),
+            ),
+            None => pack(0, 0, 0, 0),
+        }
+    }
+}
+
+// The entry is the first field.
+impl Answer for Settled {
+    ghost packed = { settled };
+
+    fn pack(self) -> u64 {
+        pack(0, u8::from(self.wake), u16::from(self.entry), 0)
+    }
+}
+
+// A number by itself, an id's or a byte's, is the first field.
+impl Answer for u16 {
+    ghost packed = { λ n. packed 0 0 n 0 };
+
+    fn pack(self) -> u64 {
+        pack(0, 0, self, 0)
+    }
+}
+
+impl Answer for u8 {
+    ghost packed = { λ n. packed 0 0 n 0 };
+
+    fn pack(self) -> u64 {
+        pack(0, 0, u16::from(self), 0)
+    }
+}
+
+impl Answer for PrioritySet {
+    ghost packed = { λ set. packed 0 0 set 0 };
+
+    fn pack(self) -> u64 {
+        pack(0, 0, u16::from(self.into_bits()), 0)
+    }
+}
+
+impl Answer for Option<Priority> {
+    ghost packed = { priority_answer };
+
+    fn pack(self) -> u64 {
+        match self {
+            Some(p) => pack(0, 1, u16::from(p.into_u8()), 0),
+            None => pack(0, 0, 0, 0),
+        }
+    }
+}
+
+// Whether a frame ends its transfer, if it has a last byte.
+impl Answer for Option<bool> {
+    ghost packed = { eot_answer };
+
+    fn pack(self) -> u64 {
+        match self {
+            Some(b) => pack(0, 1, u16::from(b), 0),
+            None => pack(0, 0, 0, 0),
+        }
+    }
+}
+
 impl<T: Answer> Answer for Result<T, Refusal> {
     ghost packed = { answered T.packed };
 
@@ -78,92 +182,4 @@ pub fn pack(number: u8, what: u8, first: u16, second: u32) -> u64
     ensures { result ≡ packed number what first second }
 {
     (number as u64) + 256 * (what as u64) + 65536 * (first as u64) + 4294967296 * (second as u64)
-}
-
-pub fn holds(b: bool) -> u64
-    ensures { result ≡ packed 0 (to_nat b) 0 0 }
-{
-    pack(0, b as u8, 0, 0)
-}
-
-pub fn byte_answer(x: u8) -> u64
-    ensures { result ≡ packed 0 0 x 0 }
-{
-    pack(0, 0, x as u16, 0)
-}
-
-pub fn set_answer(s: PrioritySet) -> u64
-    ensures { result ≡ packed 0 0 s 0 }
-{
-    byte_answer(s.into_bits())
-}
-
-pub fn regular_answer(a: regular::Answer) -> u64
-    ensures { result ≡ regular_answer a }
-{
-    match a {
-        regular::Answer::Refused(n) => pack(n, 0, 0, 0),
-        regular::Answer::Done => pack(0, 0, 0, 0),
-        regular::Answer::Accepted(b) => holds(b),
-        regular::Answer::AddSubject(x) => pack(0, 1, x, 0),
-        regular::Answer::RemoveSubjectRange(x, y) => pack(0, 2, x, y as u32),
-        regular::Answer::Nothing => pack(0, 0, 0, 0),
-        regular::Answer::Started(b) => holds(b),
-        regular::Answer::Pushed(e, more) => pack(0, 1, e as u16, more as u32),
-        regular::Answer::NotPushed => pack(0, 0, 0, 0),
-    }
-}
-
-pub fn loop_back_answer(a: loop_back::Answer) -> u64
-    ensures { result ≡ loop_back_answer a }
-{
-    match a {
-        loop_back::Answer::Refused(n) => pack(n, 0, 0, 0),
-        loop_back::Answer::Done => pack(0, 0, 0, 0),
-        loop_back::Answer::Started(b) => holds(b),
-        loop_back::Answer::Pushed(e, more) => pack(0, 1, e as u16, more as u32),
-        loop_back::Answer::NotPushed => pack(0, 0, 0, 0),
-    }
-}
-
-pub fn request_answer(a: rx_req::Answer) -> u64
-    ensures { result ≡ request_answer a }
-{
-    match a {
-        rx_req::Answer::Refused(n) => pack(n, 0, 0, 0),
-        rx_req::Answer::Done => pack(0, 0, 0, 0),
-        rx_req::Answer::Pushed(e) => pack(0, 1, e as u16, 0),
-        rx_req::Answer::NotPushed => pack(0, 0, 0, 0),
-    }
-}
-
-pub fn transmit_answer(a: tx_queue::Answer) -> u64
-    ensures { result ≡ transmit_answer a }
-{
-    match a {
-        tx_queue::Answer::Refused(n) => pack(n, 0, 0, 0),
-        tx_queue::Answer::Done => pack(0, 0, 0, 0),
-        tx_queue::Answer::Accepted(b) => holds(b),
-        tx_queue::Answer::Picked(e, p) => pack(0, 1, e as u16, p as u32),
-        tx_queue::Answer::Nothing => pack(0, 0, 0, 0),
-        tx_queue::Answer::Settled(e, b) => pack(0, b as u8, e as u16, 0),
-    }
-}
-
-pub fn priority_answer(a: Option<Priority>) -> u64
-    ensures { result ≡ priority_answer a }
-{
-    match a {
-        Some(p) => pack(0, 1, p.into_u8() as u16, 0),
-        None => pack(0, 0, 0, 0),
-    }
-}
-
-pub fn eot_answer(a: Option<bool>) -> u64
-    ensures { result ≡ eot_answer a }
-{
-    match a {
-        Some(b) => pack(0, 1, b as u16, 0),
-        None => pack(0, 0, 0, 0),
-    }
 }

@@ -2,41 +2,42 @@
 ghost use Rattle.std.specs.Prelude.{◌≡◌};
 ghost use Rattle.gomxeli.specs.Calls.{does, TxmOpen, TxmRegister, TxmUnregister, TxmUpdate, TxmPick, TxmSettle};
 
-use crate::answer::transmit_answer;
+use crate::answer::Answer;
+use tx_queue::Frame;
 
 #[unsafe(no_mangle)]
 pub extern "C" fn gomxeli_txm_open(s: &mut [u8]) -> u64
     ensures { (result ≡ (does TxmOpen s.old).answer) × (s.new ≡ (does TxmOpen s.old).bytes) }
 {
-    transmit_answer(tx_msg::open(s))
+    tx_msg::open(s).pack()
 }
 
 #[unsafe(no_mangle)]
 pub extern "C" fn gomxeli_txm_register(s: &mut [u8], entry: u32, subject: u32, readiness: u8) -> u64
     ensures { (result ≡ (does (TxmRegister «entry» subject readiness) s.old).answer) × (s.new ≡ (does (TxmRegister «entry» subject readiness) s.old).bytes) }
 {
-    transmit_answer(tx_msg::register(s, entry, subject, readiness))
+    tx_msg::register(s, entry, subject, readiness).pack()
 }
 
 #[unsafe(no_mangle)]
 pub extern "C" fn gomxeli_txm_unregister(s: &mut [u8], entry: u32) -> u64
     ensures { (result ≡ (does (TxmUnregister «entry») s.old).answer) × (s.new ≡ (does (TxmUnregister «entry») s.old).bytes) }
 {
-    transmit_answer(tx_msg::unregister(s, entry))
+    tx_msg::unregister(s, entry).pack()
 }
 
 #[unsafe(no_mangle)]
 pub extern "C" fn gomxeli_txm_update(s: &mut [u8], entry: u32, readiness: u8) -> u64
     ensures { (result ≡ (does (TxmUpdate «entry» readiness) s.old).answer) × (s.new ≡ (does (TxmUpdate «entry» readiness) s.old).bytes) }
 {
-    transmit_answer(tx_msg::update(s, entry, readiness))
+    tx_msg::update(s, entry, readiness).pack()
 }
 
 #[unsafe(no_mangle)]
 pub extern "C" fn gomxeli_txm_pick(s: &mut [u8], mask: u8, mtu: u32) -> u64
     ensures { (result ≡ (does (TxmPick mask mtu) s.old).answer) × (s.new ≡ (does (TxmPick mask mtu) s.old).bytes) }
 {
-    transmit_answer(tx_msg::pick(s, mask, mtu))
+    tx_msg::pick(s, mask, mtu).pack()
 }
 
 #[unsafe(no_mangle)]
@@ -50,5 +51,10 @@ pub extern "C" fn gomxeli_txm_settle(
 ) -> u64
     ensures { (result ≡ (does (TxmSettle frame readiness priority length last) s.old).answer) × (s.new ≡ (does (TxmSettle frame readiness priority length last) s.old).bytes) }
 {
-    transmit_answer(tx_msg::settle(s, frame != 0, readiness, priority, length, last))
+    let frame = (frame != 0).then_some(Frame {
+        priority,
+        length,
+        last,
+    });
+    tx_msg::settle(s, frame, readiness).pack()
 }

@@ -2,41 +2,42 @@
 ghost use Rattle.std.specs.Prelude.{◌≡◌};
 ghost use Rattle.gomxeli.specs.Calls.{does, TxrOpen, TxrRegister, TxrUnregister, TxrUpdate, TxrPick, TxrSettle};
 
-use crate::answer::transmit_answer;
+use crate::answer::Answer;
+use tx_queue::Frame;
 
 #[unsafe(no_mangle)]
 pub extern "C" fn gomxeli_txr_open(s: &mut [u8]) -> u64
     ensures { (result ≡ (does TxrOpen s.old).answer) × (s.new ≡ (does TxrOpen s.old).bytes) }
 {
-    transmit_answer(tx_resp::open(s))
+    tx_resp::open(s).pack()
 }
 
 #[unsafe(no_mangle)]
 pub extern "C" fn gomxeli_txr_register(s: &mut [u8], entry: u32, readiness: u8) -> u64
     ensures { (result ≡ (does (TxrRegister «entry» readiness) s.old).answer) × (s.new ≡ (does (TxrRegister «entry» readiness) s.old).bytes) }
 {
-    transmit_answer(tx_resp::register(s, entry, readiness))
+    tx_resp::register(s, entry, readiness).pack()
 }
 
 #[unsafe(no_mangle)]
 pub extern "C" fn gomxeli_txr_unregister(s: &mut [u8], entry: u32) -> u64
     ensures { (result ≡ (does (TxrUnregister «entry») s.old).answer) × (s.new ≡ (does (TxrUnregister «entry») s.old).bytes) }
 {
-    transmit_answer(tx_resp::unregister(s, entry))
+    tx_resp::unregister(s, entry).pack()
 }
 
 #[unsafe(no_mangle)]
 pub extern "C" fn gomxeli_txr_update(s: &mut [u8], entry: u32, readiness: u8) -> u64
     ensures { (result ≡ (does (TxrUpdate «entry» readiness) s.old).answer) × (s.new ≡ (does (TxrUpdate «entry» readiness) s.old).bytes) }
 {
-    transmit_answer(tx_resp::update(s, entry, readiness))
+    tx_resp::update(s, entry, readiness).pack()
 }
 
 #[unsafe(no_mangle)]
 pub extern "C" fn gomxeli_txr_pick(s: &mut [u8], mask: u8, mtu: u32) -> u64
     ensures { (result ≡ (does (TxrPick mask mtu) s.old).answer) × (s.new ≡ (does (TxrPick mask mtu) s.old).bytes) }
 {
-    transmit_answer(tx_resp::pick(s, mask, mtu))
+    tx_resp::pick(s, mask, mtu).pack()
 }
 
 #[unsafe(no_mangle)]
@@ -50,5 +51,10 @@ pub extern "C" fn gomxeli_txr_settle(
 ) -> u64
     ensures { (result ≡ (does (TxrSettle frame readiness priority length last) s.old).answer) × (s.new ≡ (does (TxrSettle frame readiness priority length last) s.old).bytes) }
 {
-    transmit_answer(tx_resp::settle(s, frame != 0, readiness, priority, length, last))
+    let frame = (frame != 0).then_some(Frame {
+        priority,
+        length,
+        last,
+    });
+    tx_resp::settle(s, frame, readiness).pack()
 }

@@ -5,15 +5,13 @@ use mathlib.Core.Logic.{◌≢◌}
 use mathlib.Core.List.{List, [], ◌∷◌, ◌++◌}
 use mathlib.Core.Bool.{Bool, true, false}
 use native.Mathlib.Omega.{arith}
-use mir.Val.{Fits}
-use mir.Syntax.{w8}
 use native.Mathlib.Decide.{dec_lt}
 use lib.ListN.{length, get_or, set, take, drop, length-set, length-map}
 use lib.Seq.{set-get_or}
 use lib.Dec.{eqb}
 use borrow.Author.Tests.{lt-ltb, le-leb, lt-leb, eq-eqb, eqb-true}
 use Rattle.state.specs.Lengths.{keys_length}
-use Rattle.state.specs.Result.{Bytes}
+use Rattle.state.specs.Outcome.{Bytes}
 use Rattle.state.proofs.Tests.{not-both, false_of}
 use Rattle.multi_cycle_list.specs.Lists.{Lists, Valid, count, row, without, removed, without_entry, moved_front, moved_back}
 use Rattle.multi_cycle_list.specs.Nodes as nodes
@@ -22,7 +20,9 @@ use Rattle.multi_cycle_list.proofs.Laid as mcl
 use Rattle.multi_cycle_list.proofs.Changes.{remove-valid, front-valid, back-valid}
 use Rattle.index_entries.specs.Keys.{Slot, free, holds, spent, Keys, has_key, is_free, slot, Found, missing, at, found, Within, ValidKeys, with_slot, with_lists, changed as change}
 use Rattle.index_entries.specs.Bytes.{k_max, entries, list_part, key_word, value, index, read, whole_b}
-use Rattle.index_entries.specs.Inner.{set_word, set_long, with_list}
+use Rattle.index_entries.specs.Inner.{set_word, set_long, with_list, moved}
+use Rattle.index_entries.specs.declared.change.Move.{Move}
+use Rattle.index_entries.specs.declared.change.Move.TheVariants.{Front, Back, Out}
 use Rattle.index_entries.specs.Laid.{word_over, value_over, index_over, laid}
 use Rattle.index_entries.proofs.Find.{Looks, looks, found_none, found_at, key-not-free}
 use Rattle.multi_cycle_list.proofs.Lists.{count-gone, count_kept, count-append}
@@ -74,6 +74,11 @@ module _ (m : Keys) (f : ValidKeys m) (i : ℕ) (h : i < length m.slots) where
   moves_back =
       gone (moved_back 0 i m.lists) (length-set (removed i m.lists.rows) 0 (get_or (removed i m.lists.rows) 0 [] ++ (i ∷ [])) ∙ removed-two) refl
       (back-valid m.lists f.valid i in_lists 0 (omega (arith, f.classes))) (back-row i m.lists)
+
+  pub moves_to : (to : Move) → Moves m i (moved to i m.lists) false
+  moves_to Front = moves_front
+  moves_to Back = moves_back
+  moves_to Out = moves_gone
 
   pub moves_free : Moves m i (moved_back 1 i m.lists) true
   moves_free =
@@ -210,7 +215,7 @@ module _ (s : List ℕ) (y : Bytes s) (h : whole_b s ≡ true) (i : ℕ) (hi : i
   replaced l c q = has-list (entries s) (k_max s) s s (list_part s) (key_word (entries s) s) (value (entries s) s) (index (entries s) s) (self-has s f y) (lists.laid l) (laid-length l c q)
 
   -- the lists alone are changed
-  pub lists-laid : (l : Lists) → is_free (slot (read s) i) ≡ false → Moves (read s) i l false → with_list s l ≡ laid (with_lists l (read s)) s
+  lists-laid : (l : Lists) → is_free (slot (read s) i) ≡ false → Moves (read s) i l false → with_list s l ≡ laid (with_lists l (read s)) s
   unfolding f r
   lists-laid l b v =
       let x = slot (read s) i in
@@ -228,6 +233,10 @@ module _ (s : List ℕ) (y : Bytes s) (h : whole_b s ≡ true) (i : ℕ) (hi : i
       keys_of : List Slot → Lists → Keys
       keys_of ss l = record { k_max = k_max s; slots = ss; lists = l }
 
+  pub moved_laid : (to : Move) → is_free (slot (read s) i) ≡ false → with_list s (moved to i (read s).lists) ≡ laid (with_lists (moved to i (read s).lists) (read s)) s
+  unfolding r
+  moved_laid to b = lists-laid (moved to i (read s).lists) b (moves_to (read s) r i in_slots to)
+
   -- the bytes' fields, with the list queue as it is laid out
   self : Has (entries s) (k_max s) s s (lists.laid (read s).lists) (key_word (entries s) s) (value (entries s) s) (index (entries s) s)
   unfolding f
@@ -243,9 +252,9 @@ module _ (s : List ℕ) (y : Bytes s) (h : whole_b s ≡ true) (i : ℕ) (hi : i
     key-is : (k : ℕ) → has_key k (slot (read s) i) ≡ eqb (key_word (entries s) s i) k
     key-is k = ap (has_key k) holds_it
 
-    pub in-range : key_word (entries s) s i ≤ k_max s
+    pub in_range : key_word (entries s) s i ≤ k_max s
     unfolding f
-    in-range = (owner s f i (key_word (entries s) s i) (key-is (key_word (entries s) s i) ∙ eq-eqb (key_word (entries s) s i) (key_word (entries s) s i) refl)).1.within
+    in_range = (owner s f i (key_word (entries s) s i) (key-is (key_word (entries s) s i) ∙ eq-eqb (key_word (entries s) s i) (key_word (entries s) s i) refl)).1.within
 
     -- a slot with the same key, the lists and the index as they were
     same_key : (x : Slot) → Within (k_max s) x → is_free x ≡ false → ((k : ℕ) → has_key k x ≡ eqb (key_word (entries s) s i) k) → Keeps (read s) i x (read s).lists
@@ -257,31 +266,31 @@ module _ (s : List ℕ) (y : Bytes s) (h : whole_b s ≡ true) (i : ℕ) (hi : i
     same_index x w b e = record { new = λ j p. (owner s f i j (key-is j ∙ sym (e j) ∙ p)).1.named; lost = λ j p q. not-both (sym q ∙ key-is j ∙ sym (e j) ∙ p); kept = λ j p q. refl }
 
     -- a value is stored
-    pub value-laid : (v : ℕ) → v < 4294967296 → set_long s (8 + 4 * entries s + 4 * i) v ≡ laid (with_slot i (holds (key_word (entries s) s i) v) (read s)) s
+    pub value_laid : (v : ℕ) → v < 4294967296 → set_long s (8 + 4 * entries s + 4 * i) v ≡ laid (with_slot i (holds (key_word (entries s) s i) v) (read s)) s
     unfolding f
-    value-laid v b =
+    value_laid v b =
         let n = entries s in
         let x = holds (key_word n s i) v in
-        let w : Within (k_max s) x = (in-range, b) in
+        let w : Within (k_max s) x = (in_range, b) in
         change_laid s y f i x (read s).lists (same_key x w refl (λ k. refl)) _ (key_word n s) (upd (value n s) i v) (index n s)
         (store_long n (k_max s) s s (lists.laid (read s).lists) (key_word n s) (value n s) (index n s) self i v hi b)
         refl (λ j d. refl) (upd_same (value n s) i v i refl) (λ j d. upd_other (value n s) i v j d) (same_index x w refl (λ k. refl))
 
     -- the value is handed back
-    pub spent-laid : set_word s (8 + 2 * entries s + 2 * i) (8192 + key_word (entries s) s i) ≡ laid (with_slot i (spent (key_word (entries s) s i)) (read s)) s
+    pub spent_laid : set_word s (8 + 2 * entries s + 2 * i) (8192 + key_word (entries s) s i) ≡ laid (with_slot i (spent (key_word (entries s) s i)) (read s)) s
     unfolding f
-    spent-laid =
+    spent_laid =
         let n = entries s in
         let x = spent (key_word n s i) in
-        change_laid s y f i x (read s).lists (same_key x in-range refl (λ k. refl)) _ (upd (key_word n s) i (8192 + key_word n s i)) (value n s) (index n s)
+        change_laid s y f i x (read s).lists (same_key x in_range refl (λ k. refl)) _ (upd (key_word n s) i (8192 + key_word n s i)) (value n s) (index n s)
         (store_word n (k_max s) s s (lists.laid (read s).lists) (key_word n s) (value n s) (index n s) self i (8192 + key_word n s i) hi (omega arith))
-        (upd_same (key_word n s) i (8192 + key_word n s i) i refl) (λ j d. upd_other (key_word n s) i (8192 + key_word n s i) j d) refl (λ j d. refl) (same_index x in-range refl (λ k. refl))
+        (upd_same (key_word n s) i (8192 + key_word n s i) i refl) (λ j d. upd_other (key_word n s) i (8192 + key_word n s i) j d) refl (λ j d. refl) (same_index x in_range refl (λ k. refl))
 
     -- the entry is freed: it joins the back of the free ones, and its key has no entry
-    pub freed-laid : set (set_word (with_list s (moved_back 1 i (read s).lists)) (8 + 2 * entries s + 2 * i) 65535) (8 + 8 * entries s + key_word (entries s) s i) 255
+    pub freed_laid : set (set_word (with_list s (moved_back 1 i (read s).lists)) (8 + 2 * entries s + 2 * i) 65535) (8 + 8 * entries s + key_word (entries s) s i) 255
         ≡ laid (change i free (moved_back 1 i (read s).lists) (read s)) s
     unfolding f r
-    freed-laid =
+    freed_laid =
         let n = entries s in
         let k = key_word n s i in
         let l = moved_back 1 i (read s).lists in
@@ -289,7 +298,7 @@ module _ (s : List ℕ) (y : Bytes s) (h : whole_b s ≡ true) (i : ℕ) (hi : i
         let v = moves_free (read s) r i in_slots in
         let h1 = replaced l v.classes v.entries in
         let h2 = store_word n (k_max s) s t1 (lists.laid l) (key_word n s) (value n s) (index n s) h1 i 65535 hi (omega arith) in
-        let h3 = store_index n (k_max s) s (set_word t1 (8 + 2 * n + 2 * i) 65535) (lists.laid l) (upd (key_word n s) i 65535) (value n s) (index n s) h2 k 255 in-range in
+        let h3 = store_index n (k_max s) s (set_word t1 (8 + 2 * n + 2 * i) 65535) (lists.laid l) (upd (key_word n s) i 65535) (value n s) (index n s) h2 k 255 in_range in
         change_laid s y f i free l (keeps (read s) r i in_slots free l tt (own_key free (λ k p. not-both (sym p))) v) _ (upd (key_word n s) i 65535) (value n s) (upd (index n s) k 255) h3
         (upd_same (key_word n s) i 65535 i refl ∙ sym (rw (lt-leb 16384 k (omega arith)))) (λ j d. upd_other (key_word n s) i 65535 j d) refl (λ j d. refl)
         (record {
@@ -299,11 +308,11 @@ module _ (s : List ℕ) (y : Bytes s) (h : whole_b s ≡ true) (i : ℕ) (hi : i
         })
 
   -- a free entry takes a key and a value
-  pub taken-laid : (k v : ℕ) → is_free (slot (read s) i) ≡ true → k ≤ k_max s → v < 4294967296 → found (read s) k ≡ missing
+  pub taken_laid : (k v : ℕ) → is_free (slot (read s) i) ≡ true → k ≤ k_max s → v < 4294967296 → found (read s) k ≡ missing
       → set (set_long (set_word (with_list s (without_entry i (read s).lists)) (8 + 2 * entries s + 2 * i) k) (8 + 4 * entries s + 4 * i) v) (8 + 8 * entries s + k) i
       ≡ laid (change i (holds k v) (without_entry i (read s).lists) (read s)) s
   unfolding f r
-  taken-laid k v b hk hv nk =
+  taken_laid k v b hk hv nk =
       let n = entries s in
       let l = without_entry i (read s).lists in
       let x = holds k v in
@@ -335,20 +344,20 @@ module _ (s : List ℕ) (h : whole_b s ≡ true) (e : ℕ) (q : e ≡ 8 + 2 * en
   pub lent_part : take (e - 2) (drop 2 s) ≡ list_part s
   lent_part = ap (λ (z : ℕ). take z (drop 2 s)) cut
 
-  -- a class c below 2
-  pub lent_class : (c : ℕ) → c < 2 → (nodes.whole_b (take (e - 2) (drop 2 s)) ≡ true) × (c < nodes.classes (take (e - 2) (drop 2 s)))
-  lent_class c l = let f = facts_of s h in rw lent_part (f.lists, omega (arith, f.two))
+  pub lent_whole : nodes.whole_b (take (e - 2) (drop 2 s)) ≡ true
+  lent_whole = let f = facts_of s h in rw lent_part f.lists
 
-  -- and an entry
-  pub lent_entry : (i : ℕ) → i < entries s → i < nodes.entries (take (e - 2) (drop 2 s))
-  lent_entry i l = rw lent_part (omega (arith, part-entries s))
+  pub lent_classes : nodes.classes (take (e - 2) (drop 2 s)) ≡ 2
+  lent_classes = let f = facts_of s h in rw lent_part f.two
+
+  pub lent_entries : nodes.entries (take (e - 2) (drop 2 s)) ≡ entries s
+  lent_entries = rw lent_part (part-entries s)
 
   -- what the lent part becomes
-  pub put-list : (g : Lists → Lists) (p : List ℕ) → p ≡ lists.laid (g (nodes.read (take (e - 2) (drop 2 s)))) → take 2 s ++ (p ++ drop (e - 2) (drop 2 s)) ≡ with_list s (g (read s).lists)
+  pub put_list : (g : Lists → Lists) (p : List ℕ) → p ≡ lists.laid (g (nodes.read (take (e - 2) (drop 2 s)))) → take 2 s ++ (p ++ drop (e - 2) (drop 2 s)) ≡ with_list s (g (read s).lists)
   unfolding with_list
-  put-list g p w =
+  put_list g p w =
       ap (λ (z : ℕ). take 2 s ++ (p ++ drop z (drop 2 s))) cut
       ∙ ap (λ (z : List ℕ). take 2 s ++ (z ++ drop (6 + 2 * entries s) (drop 2 s))) (w ∙ ap (λ (z : List ℕ). lists.laid (g (nodes.read z))) lent_part)
 
-pub bytes_of : (s : List ℕ) → ((i : ℕ) → Fits w8 (get_or s i 0)) → Bytes s
-bytes_of s g i = omega (arith, g i)
+pub ruleset lent = (lent_whole, lent_classes, lent_entries, put_list)

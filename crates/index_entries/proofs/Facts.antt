@@ -10,7 +10,7 @@ use lib.Seq.{get_or-take, get_or-drop}
 use lib.Dec.{leb, ltb, eqb}
 use borrow.Author.Tests.{lt-ltb, le-ltb, ltb-true, le-leb, leb-true, eq-eqb, eqb-true, not-true}
 use Rattle.state.specs.Lengths.{keys_allowed, keys_length}
-use Rattle.state.specs.Result.{Bytes}
+use Rattle.state.specs.Outcome.{Bytes}
 use Rattle.state.specs.Seq.{all_b, each}
 use Rattle.state.proofs.Seq.{all_true, all-at, length-each, get_d_each}
 use Rattle.state.proofs.Tests.{and_l, and_r, and4, not-both, false_of}
@@ -28,6 +28,9 @@ use Rattle.index_entries.proofs.LaidFields.{laid-has-at}
 
 pub keys-allowed : (k e : ℕ) → keys_allowed k e ≡ true → (k ≤ 8191) × (e ≤ 222)
 keys-allowed k e h = (leb-true k 8191 (and_l (leb k 8191) (leb e 222) h), leb-true e 222 (and_r (leb k 8191) (leb e 222) h))
+
+pub few : (k e : ℕ) → keys_allowed k e ≡ true → e ≤ 222
+few k e h = (keys-allowed k e h).1
 
 pub allowed-keys : (k e : ℕ) → k ≤ 8191 → e ≤ 222 → keys_allowed k e ≡ true
 allowed-keys k e a b = rw (le-leb k 8191 a, le-leb e 222 b)

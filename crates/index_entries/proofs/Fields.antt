@@ -7,7 +7,7 @@ use native.Mathlib.Decide.{dec_lt}
 use lib.ListN.{length, get_or, take, drop}
 use lib.Seq.{ext_get_or, get_or-take, get_or-drop}
 use Rattle.state.specs.Lengths.{keys_length}
-use Rattle.state.specs.Result.{Bytes}
+use Rattle.state.specs.Outcome.{Bytes}
 
 -- The bytes t, of n entries and keys to k, have the list queue l, the key words w, the values v and the index x; what says nothing is as in s.
 pub record Has (n k : ℕ) (s t l : List ℕ) (w v x : ℕ → ℕ) : Type 0 where

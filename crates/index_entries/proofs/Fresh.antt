@@ -67,15 +67,15 @@ one_more n f =
     two-rows : ℕ → List ℕ → Lists
     two-rows n l = record { entries = n; rows = [] ∷ (l ∷ []) }
 
-two-allowed : (n : ℕ) → n ≤ 222 → lists_allowed 2 n ≡ true
-two-allowed n h = of_allowed 2 n (omega arith) (omega arith) (omega arith)
+pub two_allowed : (n : ℕ) → n ≤ 222 → lists_allowed 2 n ≡ true
+two_allowed n h = of_allowed 2 n (omega arith) (omega arith) (omega arith)
 
 none_free : (n : ℕ) → empty 2 n ≡ free_first n 0
 unfolding each
 none_free n = refl
 
 pub first-valid : (n f : ℕ) → n ≤ 222 → f ≤ n → Valid (free_first n f)
-first-valid n zero h l = subst (λ (m : Lists). Valid m) (none_free n) (empty-valid 2 n (two-allowed n h))
+first-valid n zero h l = subst (λ (m : Lists). Valid m) (none_free n) (empty-valid 2 n (two_allowed n h))
 first-valid n (suc f) h l =
     subst (λ (m : Lists). Valid m) (one_more n f ∙ ap (free_first n) (add-one f))
     (back-valid (free_first n f) (first-valid n f h (omega arith)) f (omega arith) 1 (omega arith))
@@ -116,18 +116,15 @@ module _ (n f : ℕ) (h : n ≤ 222) (l : f < n) (q : List ℕ) (e : q ≡ lists
       let o = mcl.out-sizes 2 n (lists.arcs 2 0 m.rows) in
       rw e (mcl.laid_whole m (first-valid n f h (omega arith)), (omega (arith, o.0), omega (arith, o.1)))
 
-  pub next-is : (p : List ℕ) → p ≡ lists.laid (moved_back 1 f (nodes.read q)) → p ≡ lists.laid (free_first n (f + 1))
-  next-is p g =
+  pub next_is : (p : List ℕ) → p ≡ lists.laid (moved_back 1 f (nodes.read q)) → p ≡ lists.laid (free_first n (f + 1))
+  next_is p g =
       g
       ∙ ap (λ (z : List ℕ). lists.laid (moved_back 1 f (nodes.read z))) e
       ∙ ap (λ (m : Lists). lists.laid (moved_back 1 f m)) (mcl.read_laid (free_first n f) (first-valid n f h (omega arith)))
       ∙ ap (λ (m : Lists). lists.laid m) (one_more n f)
 
-pub none-laid : (n : ℕ) → lists.laid (empty 2 n) ≡ lists.laid (free_first n 0)
-none-laid n = ap (λ (m : Lists). lists.laid m) (none_free n)
-
-pub lists-fit : (n : ℕ) → n ≤ 222 → lists_allowed 2 n ≡ true
-lists-fit n h = two-allowed n h
+pub none_laid : (n : ℕ) → lists.laid (empty 2 n) ≡ lists.laid (free_first n 0)
+none_laid n = ap (λ (m : Lists). lists.laid m) (none_free n)
 
 pub first-length : (n f : ℕ) → length (lists.laid (free_first n f)) ≡ 6 + 2 * n
 first-length n f = omega (arith, mcl.out-length 2 n (lists.arcs 2 0 (free_first n f).rows))
@@ -185,9 +182,9 @@ module _ (k n L : ℕ) (h : keys_allowed k n ≡ true) (fit : L ≡ keys_length 
         at-z (10 + 4 * n + 4 * i + 1) (omega arith),
       )
 
-  pub opened-laid : (p : List ℕ) → p ≡ lists.laid (free_first n n) → (c : ℕ) → c ≡ 6 + 2 * n → take 2 (set_word (replicate L 255) 0 k) ++ (p ++ drop c (drop 2 (set_word (replicate L 255) 0 k))) ≡ laid (fresh k n) (replicate L 255)
+  pub opened_laid : (p : List ℕ) → p ≡ lists.laid (free_first n n) → (c : ℕ) → c ≡ 6 + 2 * n → take 2 (set_word (replicate L 255) 0 k) ++ (p ++ drop c (drop 2 (set_word (replicate L 255) 0 k))) ≡ laid (fresh k n) (replicate L 255)
   unfolding z s1
-  opened-laid p q c d =
+  opened_laid p q c d =
       let m = fresh k n in
       let a = keys-allowed k n h in
       let e : length (replicate n free) ≡ n = length-replicate {A = Slot} n free in

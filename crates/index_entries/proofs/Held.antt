@@ -31,3 +31,5 @@ module _ (s : List ℕ) (i : ℕ) (h : i < entries s) where
 
   pub held_free : 16384 ≤ key_word (entries s) s i → held_of (slot (read s) i) ≡ Free
   held_free a = ap held_of (slot_in s i h) ∙ rw (le-ltb (key_word (entries s) s i) 8192 (omega arith), le-ltb (key_word (entries s) s i) 16384 a)
+
+pub ruleset looks = (index_in, index_out, index_past, held_value, held_spent, held_free)

@@ -9,7 +9,7 @@ use lib.ListN.{length, get_or, take, drop}
 use lib.Seq.{get_or-take, get_or-drop}
 use borrow.Author.Tests.{lt-ltb, le-ltb, ltb-true, le-leb, lt-leb, eqb-true}
 use Rattle.state.specs.Lengths.{keys_length}
-use Rattle.state.specs.Result.{Bytes}
+use Rattle.state.specs.Outcome.{Bytes}
 use Rattle.state.specs.Seq.{each}
 use Rattle.state.proofs.Seq.{each_same, each_get_d}
 use Rattle.state.proofs.Numbers.{join}

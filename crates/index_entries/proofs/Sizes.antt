@@ -17,3 +17,5 @@ module _ (s : List ℕ) (h : whole_b s ≡ true) where
 
   pub low_keys : k_max s ≤ 8191
   low_keys = (facts_of s h).low
+
+pub ruleset sizes = (length_is, few_entries, low_keys)

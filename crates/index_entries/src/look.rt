@@ -29,7 +29,7 @@ pub fn lists_end(s: &[u8]) -> usize
 }
 
 // The entry that has the key, if any.
-#[tactic(auto, using(crate::proofs::Sizes::length_is, crate::proofs::Sizes::few_entries, crate::proofs::Sizes::low_keys, crate::proofs::Held::index_in, crate::proofs::Held::index_out, crate::proofs::Held::index_past))]
+#[tactic(auto, using(crate::proofs::Sizes::sizes, crate::proofs::Held::looks))]
 pub fn get_index(s: &[u8], key: u16) -> Option<usize>
     requires { whole_b s.now ≡ true }
     ensures { result ≡ index_of (found (read s.now) key) }
@@ -39,7 +39,7 @@ pub fn get_index(s: &[u8], key: u16) -> Option<usize>
     }
     let n = usize::from(s[3]);
     let i = usize::from(s[8 + 8 * n + usize::from(key)]);
-    if i < n { Some(i) } else { None }
+    (i < n).then_some(i)
 }
 
 // The value of the entry `i`.
@@ -53,7 +53,7 @@ pub fn value_at(s: &[u8], i: usize) -> u32
     u32::from(low) + 65536 * u32::from(high)
 }
 
-#[tactic(auto, using(crate::proofs::Sizes::length_is, crate::proofs::Sizes::few_entries, crate::proofs::Sizes::low_keys, crate::proofs::Held::held_value, crate::proofs::Held::held_spent, crate::proofs::Held::held_free))]
+#[tactic(auto, using(crate::proofs::Sizes::sizes, crate::proofs::Held::looks))]
 pub fn held_at(s: &[u8], i: usize) -> Held
     requires { (whole_b s.now ≡ true) × (i < entries s.now) }
     ensures { result ≡ held_of (slot (read s.now) i) }

@@ -8,7 +8,7 @@ use native.Mathlib.Omega.{arith}
 use native.Mathlib.Decide.{dec_lt}
 use lib.ListN.{length, take, drop}
 use Rattle.std.specs.Prelude.{Option, Some}
-use Rattle.state.specs.Result.{Bytes}
+use Rattle.state.specs.Outcome.{Bytes}
 use Rattle.multi_cycle_list.specs.Lists.{Lists, Valid, count, row, first, last}
 use Rattle.multi_cycle_list.specs.Nodes as nodes
 use Rattle.multi_cycle_list.proofs.Lists.{In, in_count}
@@ -73,3 +73,5 @@ long s h = let f = facts_of s h in omega (arith, f.len)
 -- a list that the code lends
 pub lent_row : (s : List ℕ) → whole_b s ≡ true → (e : ℕ) → e ≡ 8 + 2 * entries s → (c : ℕ) → row (nodes.read (take (e - 2) (drop 2 s))) c ≡ row (read s).lists c
 lent_row s h e q c = ap (λ (x : List ℕ). row (nodes.read x) c) (lent_part s h e q)
+
+pub ruleset free_laws = (long, free_inside, first_free)

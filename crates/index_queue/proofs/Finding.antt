@@ -96,15 +96,9 @@ module _ (s : List ℕ) (k : ℕ) where
   pub is_spent : (i : ℕ) → with_value (found (read s) k) ≡ Some (i, None) → found (read s) k ≡ at i (spent k)
   is_spent i q = spent_in k i (read s).slots (found (read s) k) (looks k (read s).slots) q
 
-  pub spent_within : (i : ℕ) → with_value (found (read s) k) ≡ Some (i, None) → whole_b s ≡ true → k ≤ k_max s
-  spent_within i q = within s k i (spent k) (is_spent i q)
-
   module _ (i v : ℕ) (q : with_value (found (read s) k) ≡ Some (i, Some v)) where
     pub is_held : found (read s) k ≡ at i (holds k v)
     is_held = holds_in k i v (read s).slots (found (read s) k) (looks k (read s).slots) q
-
-    pub held_within : whole_b s ≡ true → k ≤ k_max s
-    held_within = within s k i (holds k v) is_held
 
     pub held_inside : i < entries s
     held_inside = inside s k i (holds k v) is_held
@@ -123,3 +117,12 @@ module _ (s : List ℕ) (k : ℕ) where
 
     pub held_small : k < 8192
     held_small = both.1
+
+  -- a key with an entry is up to the last
+  pub value_within : (i : ℕ) (o : Option ℕ) → with_value (found (read s) k) ≡ Some (i, o) → whole_b s ≡ true → k ≤ k_max s
+  value_within i None q = within s k i (spent k) (is_spent i q)
+  value_within i (Some v) q = within s k i (holds k v) (is_held i v q)
+
+pub ruleset entry_laws = (absent, located, found_inside, found_keyed)
+
+pub ruleset value_laws = (gone, is_spent, is_held, held_inside, held_word, held_small, value_within)

@@ -12,8 +12,7 @@ use lib.Dec.{ltb, eqb}
 use borrow.Author.Tests.{ltb-false, eqb-true}
 use Rattle.state.specs.Lengths.{keys_allowed, keys_length}
 use Rattle.std.specs.Prelude.{Option}
-use Rattle.state.specs.Outcome.{Outcome, refuse, done, left}
-use Rattle.state.specs.Result.{Bytes}
+use Rattle.state.specs.Outcome.{Outcome, refuse, done, left, Bytes}
 use Rattle.state.specs.declared.Refusal.TheVariants.{NotWhole, Size, NotTaken}
 use Rattle.state.proofs.Tests.{not-both, by_cond}
 use Rattle.state.proofs.Outcomes.{opened-is, means_of}

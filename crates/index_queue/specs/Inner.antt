@@ -2,9 +2,12 @@
 use Rattle.std.specs.Prelude.{ℕ, ◌<◌, List, cond, Option, Some, None, Result, Ok, Err}
 use Rattle.state.specs.declared.Refusal.{Refusal}
 use Rattle.state.specs.declared.Refusal.TheVariants.{NotWhole}
-use Rattle.index_entries.specs.Keys.{Found, missing, at, found}
+use Rattle.state.specs.Outcome.{Outcome}
+use Rattle.index_entries.specs.Keys.{Keys, Found, missing, at, found}
 use Rattle.index_entries.specs.Bytes.{whole_b, read}
-use Rattle.index_entries.specs.Inner.{index_of, held_of}
+use Rattle.index_entries.specs.Inner.{index_of, held_of, moved}
+use Rattle.index_entries.specs.declared.change.Move.{Move}
+use Rattle.index_queue.specs.Calls.{queue_in}
 use Rattle.index_entries.specs.declared.look.Held.{Held}
 use Rattle.index_entries.specs.declared.look.Held.TheVariants.{Value, Spent, Free}
 
@@ -29,3 +32,7 @@ find_value s k = cond (whole_b s) (Ok (with_value (found (read s) k))) (Err NotW
 abbrev pub Below : ℕ → Option ℕ → Type 0
 Below n (Some i) = i < n
 Below n None = Unit {0}
+
+-- the entry of the key k goes to the front of the queue, to its back, or out of it
+abbrev pub key_moved : Move → ℕ → Keys → Outcome (Unit {0}) Keys
+key_moved to k m = queue_in (moved to) m (found m k)

@@ -7,11 +7,11 @@ ghost use Rattle.state.specs.Outcome.{answer};
 ghost use Rattle.multi_cycle_list.specs.Lists.{first, row};
 ghost use Rattle.index_entries.specs.Keys.{found, missing, slot};
 ghost use Rattle.index_entries.specs.Bytes.{whole_b, read, entries};
-ghost use Rattle.index_queue.specs.Inner.{find, find_value, Below};
+ghost use Rattle.index_queue.specs.Inner.{find, find_value, key_moved, Below};
 ghost use Rattle.index_queue.specs.Calls.{on, bytes, opened_bytes, opening, contains, get, get_mut, insert, remove, front, back, key_in, key_at, enqueue_front, enqueue_back, dequeue, KeysMean};
 
 use index_entries::change::{
-    free_entry, open_entries, queue_back, queue_front, spend, store_value, take_entry, unqueue,
+    Move, free_entry, open_entries, queue_move, spend, store_value, take_entry,
 };
 use index_entries::look::{Held, get_index, held_at, lists_end, word};
 use index_whole::whole;
@@ -46,7 +46,7 @@ fn find(s: &[u8], key: u16) -> Result<Option<usize>, Refusal>
 }
 
 // The key's entry and its value, none where it was handed back.
-#[tactic(auto, using(crate::proofs::Finding::located, crate::proofs::Finding::absent, crate::proofs::Finding::found_inside))]
+#[tactic(auto, using(crate::proofs::Finding::entry_laws))]
 fn find_value(s: &[u8], key: u16) -> Result<Option<(usize, Option<u32>)>, Refusal>
     ensures { result ≡ find_value s.now key }
 {
@@ -68,7 +68,7 @@ pub fn contains(s: &[u8], key: u16) -> Result<bool, Refusal>
 }
 
 // Document 01 leaves open what is answered where the value was handed back: here, that there is none.
-#[tactic(auto, using(crate::proofs::Finding::gone, crate::proofs::Finding::is_spent, crate::proofs::Finding::is_held), unfolding(crate::specs::Calls::get))]
+#[tactic(auto, using(crate::proofs::Finding::value_laws), unfolding(crate::specs::Calls::get))]
 pub fn get(s: &[u8], key: u16) -> Result<Option<u32>, Refusal>
     ensures { result ≡ answer (on (get key) s.now) }
 {
@@ -79,7 +79,7 @@ pub fn get(s: &[u8], key: u16) -> Result<Option<u32>, Refusal>
 }
 
 // Stores `value` where the key has one, and tells whether. Open in document 01, as for `get`, where the value was handed back: nothing is stored.
-#[tactic(auto, using(crate::proofs::Finding::gone, crate::proofs::Finding::is_spent, crate::proofs::Finding::is_held, crate::proofs::Finding::held_inside, crate::proofs::Finding::held_word, crate::proofs::Finding::held_small, crate::proofs::Ends::same_bytes), unfolding(crate::specs::Calls::get_mut))]
+#[tactic(auto, using(crate::proofs::Finding::value_laws, crate::proofs::Ends::same_bytes), unfolding(crate::specs::Calls::get_mut))]
 pub fn get_mut(s: &mut [u8], key: u16, value: u32) -> Result<bool, Refusal>
     ensures { (result ≡ answer (on (get_mut key value) s.old)) × (s.new ≡ bytes s.old (on (get_mut key value) s.old)) }
 {
@@ -91,6 +91,7 @@ pub fn get_mut(s: &mut [u8], key: u16, value: u32) -> Result<bool, Refusal>
 }
 
 // The first entry of the queue, which is class 0, or of the free ones, class 1.
+#[tactic(auto, using(index_entries::proofs::Acts::lent, crate::proofs::Ends::lent_row))]
 fn first_of(s: &[u8], class: usize) -> Option<u8>
     requires { (whole_b s.now ≡ true) × (class < 2) }
     ensures { result ≡ first (row (read s.now).lists class) }
@@ -100,7 +101,7 @@ fn first_of(s: &[u8], class: usize) -> Option<u8>
 }
 
 // A key that has no entry: the first free entry takes it.
-#[tactic(auto, using(crate::proofs::Ends::long, crate::proofs::Ends::free_inside, crate::proofs::Ends::first_free), unfolding(crate::specs::Calls::insert))]
+#[tactic(auto, using(crate::proofs::Ends::free_laws), unfolding(crate::specs::Calls::insert))]
 fn insert_new(s: &mut [u8], key: u16, value: u32) -> Result<Option<u32>, Refusal>
     requires { (whole_b s.old ≡ true) × (found (read s.old) key ≡ missing) }
     ensures { (result ≡ answer (on (insert key value) s.old)) × (s.new ≡ bytes s.old (on (insert key value) s.old)) }
@@ -113,7 +114,7 @@ fn insert_new(s: &mut [u8], key: u16, value: u32) -> Result<Option<u32>, Refusal
     Ok(None)
 }
 
-#[tactic(auto, using(crate::proofs::Finding::gone, crate::proofs::Finding::is_spent, crate::proofs::Finding::is_held, crate::proofs::Finding::held_inside, crate::proofs::Finding::held_word, crate::proofs::Finding::held_small, crate::proofs::Finding::held_within, crate::proofs::Finding::spent_within), unfolding(crate::specs::Calls::insert))]
+#[tactic(auto, using(crate::proofs::Finding::value_laws), unfolding(crate::specs::Calls::insert))]
 pub fn insert(s: &mut [u8], key: u16, value: u32) -> Result<Option<u32>, Refusal>
     ensures { (result ≡ answer (on (insert key value) s.old)) × (s.new ≡ bytes s.old (on (insert key value) s.old)) }
 {
@@ -125,7 +126,7 @@ pub fn insert(s: &mut [u8], key: u16, value: u32) -> Result<Option<u32>, Refusal
     Ok(Some(old))
 }
 
-#[tactic(auto, using(crate::proofs::Finding::gone, crate::proofs::Finding::is_spent, crate::proofs::Finding::is_held, crate::proofs::Finding::held_inside, crate::proofs::Finding::held_word, crate::proofs::Finding::held_small, crate::proofs::Ends::same_bytes), unfolding(crate::specs::Calls::remove))]
+#[tactic(auto, using(crate::proofs::Finding::value_laws, crate::proofs::Ends::same_bytes), unfolding(crate::specs::Calls::remove))]
 pub fn remove(s: &mut [u8], key: u16) -> Result<Option<u32>, Refusal>
     ensures { (result ≡ answer (on (remove key) s.old)) × (s.new ≡ bytes s.old (on (remove key) s.old)) }
 {
@@ -153,13 +154,10 @@ fn key_of(s: &[u8], entry: Option<u8>) -> Option<u16>
     requires { (whole_b s.now ≡ true) × Below (entries s.now) entry }
     ensures { result ≡ key_at (read s.now) entry }
 {
-    match entry {
-        Some(i) => key_at(s, usize::from(i)),
-        None => None,
-    }
+    entry.and_then(|i| key_at(s, usize::from(i)))
 }
 
-#[tactic(auto, unfolding(crate::specs::Calls::front))]
+#[tactic(auto, using(crate::proofs::Ends::first_entry), unfolding(crate::specs::Calls::front))]
 pub fn front(s: &[u8]) -> Result<Option<u16>, Refusal>
     ensures { result ≡ answer (on front s.now) }
 {
@@ -169,7 +167,7 @@ pub fn front(s: &[u8]) -> Result<Option<u16>, Refusal>
     Ok(key_of(s, first_of(s, 0)))
 }
 
-#[tactic(auto, unfolding(crate::specs::Calls::back))]
+#[tactic(auto, using(index_entries::proofs::Acts::lent, crate::proofs::Ends::lent_row, crate::proofs::Ends::last_entry), unfolding(crate::specs::Calls::back))]
 pub fn back(s: &[u8]) -> Result<Option<u16>, Refusal>
     ensures { result ≡ answer (on back s.now) }
 {
@@ -180,31 +178,35 @@ pub fn back(s: &[u8]) -> Result<Option<u16>, Refusal>
     Ok(key_of(s, inner_back(&s[2..e], 0)))
 }
 
-#[tactic(auto, using(crate::proofs::Finding::found_inside, crate::proofs::Finding::found_keyed), unfolding(crate::specs::Calls::enqueue_front))]
+// The key's entry moves in the queue, or joins it.
+#[tactic(auto, using(crate::proofs::Finding::entry_laws))]
+fn move_key(s: &mut [u8], key: u16, to: Move) -> Result<(), Refusal>
+    ensures { (result ≡ answer (on (key_moved to key) s.old)) × (s.new ≡ bytes s.old (on (key_moved to key) s.old)) }
+{
+    let i = find(s, key)?.ok_or(Refusal::NoKey)?;
+    queue_move(s, i, to);
+    Ok(())
+}
+
+#[tactic(auto, unfolding(crate::specs::Calls::enqueue_front))]
 pub fn enqueue_front(s: &mut [u8], key: u16) -> Result<(), Refusal>
     ensures { (result ≡ answer (on (enqueue_front key) s.old)) × (s.new ≡ bytes s.old (on (enqueue_front key) s.old)) }
 {
-    let i = find(s, key)?.ok_or(Refusal::NoKey)?;
-    queue_front(s, i);
-    Ok(())
+    move_key(s, key, Move::Front)
 }
 
-#[tactic(auto, using(crate::proofs::Finding::found_inside, crate::proofs::Finding::found_keyed), unfolding(crate::specs::Calls::enqueue_back))]
+#[tactic(auto, unfolding(crate::specs::Calls::enqueue_back))]
 pub fn enqueue_back(s: &mut [u8], key: u16) -> Result<(), Refusal>
     ensures { (result ≡ answer (on (enqueue_back key) s.old)) × (s.new ≡ bytes s.old (on (enqueue_back key) s.old)) }
 {
-    let i = find(s, key)?.ok_or(Refusal::NoKey)?;
-    queue_back(s, i);
-    Ok(())
+    move_key(s, key, Move::Back)
 }
 
-#[tactic(auto, using(crate::proofs::Finding::found_inside, crate::proofs::Finding::found_keyed), unfolding(crate::specs::Calls::dequeue))]
+#[tactic(auto, unfolding(crate::specs::Calls::dequeue))]
 pub fn dequeue(s: &mut [u8], key: u16) -> Result<(), Refusal>
     ensures { (result ≡ answer (on (dequeue key) s.old)) × (s.new ≡ bytes s.old (on (dequeue key) s.old)) }
 {
-    let i = find(s, key)?.ok_or(Refusal::NoKey)?;
-    unqueue(s, i);
-    Ok(())
+    move_key(s, key, Move::Out)
 }
 
 // Does nothing: its contract is the theorem of specs/Calls.antt.

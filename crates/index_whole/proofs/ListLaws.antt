@@ -19,9 +19,9 @@ module _ (b : List ℕ) where
   part_at : (j : ℕ) → j < 6 + 2 * entries b → get_or (list_part b) j 0 ≡ get_or b (2 + j) 0
   part_at j h = rw (get_or-take, get_or-drop)
 
-  pub not-two : (seen : List ℕ) → (get_or b 2 0 ≡ 2 → ⊥) → Listed b seen false
+  pub not_two : (seen : List ℕ) → (get_or b 2 0 ≡ 2 → ⊥) → Listed b seen false
   unfolding lists_b
-  not-two seen h =
+  not_two seen h =
       let p = part_at 0 (omega arith) in
       record { test = rw (ne_eqb (nodes.classes (list_part b)) 2 (λ q. h (sym p ∙ q))); freed = λ t. not-both (sym t) }
 

@@ -1,14 +1,13 @@
 -- What the inner functions require and answer. No contract of a public call cites this.
-use Rattle.std.specs.Prelude.{ℕ, ◌+◌, ◌*◌, ◌/◌, ◌<◌, ◌≤◌, ◌≡◌, List, Bool, true, length, get_or, eqb}
+use Rattle.std.specs.Prelude.{ℕ, ◌+◌, ◌<◌, ◌≤◌, ◌≡◌, List, Bool, true, length, get_or, eqb}
+use Rattle.state.specs.Lengths.{keys_length}
 use Rattle.index_entries.specs.Bytes.{k_max, entries, is_listed, lists_b}
 
--- the sizes that the bytes name, n entries and keys 0 to k, are allowed and are theirs
-pub record Sized (b : List ℕ) (n k : ℕ) : Type 0 where
-  pub has : n ≡ entries b
-  pub up_to : k ≡ k_max b
-  pub few : n ≤ 222
-  pub most : k ≤ 8191
-  pub long : length b ≡ 11 + 8 * n + 4 * ((k + 1) / 4)
+-- the sizes that the bytes name are allowed, and the length is theirs
+pub record Sized (b : List ℕ) : Type 0 where
+  pub few : entries b ≤ 222
+  pub most : k_max b ≤ 8191
+  pub long : length b ≡ keys_length (k_max b) (entries b)
 
 -- the mark of an entry is 2 exactly if it is free
 abbrev pub Freed : List ℕ → List ℕ → Type 0

@@ -23,43 +23,46 @@ fn sizes(s: &[u8]) -> bool
 }
 
 // Marks the node of each free entry with 2.
-fn lists(s: &[u8], seen: &mut [u8], n: usize, k: usize) -> bool
-    requires { (seen.old ≡ unmarked) × Sized s.now n k }
+#[tactic(auto, using(crate::proofs::ListLaws::not_two))]
+fn lists(s: &[u8], seen: &mut [u8; 256]) -> bool
+    requires { Sized s.now × (seen.old ≡ unmarked) }
     ensures { Listed s.now seen.new result }
 {
     if s[2] != 2 {
         return false;
     }
-    let end = 8 + 2 * n;
+    let end = 8 + 2 * usize::from(s[3]);
     whole_marked(&s[2..end], seen)
 }
 
 // The entry i has no key and is free, or its key's index names it and it is not free.
-fn slot_ok(s: &[u8], seen: &[u8], n: usize, k: usize, i: usize) -> bool
-    requires { (i < n) × ((length seen.now ≡ 256) × (Freed s.now seen.now × Sized s.now n k)) }
+fn slot_ok(s: &[u8], seen: &[u8; 256], i: usize) -> bool
+    requires { Sized s.now × (Freed s.now seen.now × (i < entries s.now)) }
     ensures { result ≡ slot_b s.now i (slot_at s.now i) }
 {
+    let n = usize::from(s[3]);
     let w = usize::from(word(s, 8 + 2 * n + 2 * i));
     let mark = seen[2 + i];
     if 16384 <= w {
         return mark == 2;
     }
     let key = w % 8192;
-    key <= k && usize::from(s[8 + 8 * n + key]) == i && mark != 2
+    key <= usize::from(word(s, 0)) && usize::from(s[8 + 8 * n + key]) == i && mark != 2
 }
 
-fn slots(s: &[u8], seen: &[u8], n: usize, k: usize) -> bool
-    requires { (length seen.now ≡ 256) × (Freed s.now seen.now × Sized s.now n k) }
+fn slots(s: &[u8], seen: &[u8; 256]) -> bool
+    requires { Sized s.now × Freed s.now seen.now }
     ensures { result ≡ all_b (entries s.now) (λ i. slot_b s.now i (slot_at s.now i)) }
 {
-    (0..n).all(|i| slot_ok(s, seen, n, k, i))
+    (0..usize::from(s[3])).all(|i| slot_ok(s, seen, i))
 }
 
 // The index names no entry at the key j, or one that has the key.
-fn key_ok(s: &[u8], n: usize, k: usize, j: usize) -> bool
-    requires { (j ≤ k) × Sized s.now n k }
+fn key_ok(s: &[u8], j: usize) -> bool
+    requires { Sized s.now × (j ≤ k_max s.now) }
     ensures { result ≡ key_b s.now j }
 {
+    let n = usize::from(s[3]);
     let x = usize::from(s[8 + 8 * n + j]);
     if n <= x {
         return true;
@@ -68,22 +71,21 @@ fn key_ok(s: &[u8], n: usize, k: usize, j: usize) -> bool
     w == j || w == 8192 + j
 }
 
-fn keys(s: &[u8], n: usize, k: usize) -> bool
-    requires { Sized s.now n k }
+fn keys(s: &[u8]) -> bool
+    requires { Sized s.now }
     ensures { result ≡ all_b (k_max s.now + 1) (key_b s.now) }
 {
-    (0..k + 1).all(|j| key_ok(s, n, k, j))
+    let k = usize::from(word(s, 0));
+    (0..k + 1).all(|j| key_ok(s, j))
 }
 
-#[tactic(auto, using(crate::proofs::SizeLaws::whole_is, crate::proofs::SizeLaws::long, crate::proofs::SizeLaws::sized, crate::proofs::SizeLaws::no_marks))]
+#[tactic(auto, using(crate::proofs::SizeLaws::whole_is, crate::proofs::SizeLaws::sized))]
 pub fn whole(s: &[u8]) -> bool
     ensures { result ≡ whole_b s.now }
 {
     if !sizes(s) {
         return false;
     }
-    let n = usize::from(s[3]);
-    let k = usize::from(word(s, 0));
     let mut seen = [0u8; 256];
-    lists(s, &mut seen, n, k) && slots(s, &seen, n, k) && keys(s, n, k)
+    lists(s, &mut seen) && slots(s, &seen) && keys(s)
 }

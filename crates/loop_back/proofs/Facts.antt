@@ -1,7 +1,6 @@
 -- What a whole registry is, and the code's test of it.
 use Prim.Native.Nat.{ℕ, ◌<◌, ◌≤◌}
 use mathlib.Core.Path.{◌≡◌, refl, sym, ap, ◌∙◌}
-use mathlib.Core.Logic.{◌≢◌}
 use mathlib.Core.List.{List}
 use Rattle.std.specs.Prelude.{Option, None, Some}
 use mathlib.Core.Bool.{Bool, true, false, ◌&&◌}
@@ -9,7 +8,7 @@ use native.Mathlib.Omega.{arith}
 use lib.Dec.{eqb, leb}
 use lib.ListN.{length, get_or}
 use lib.Seq.{get_or-take}
-use borrow.Author.Tests.{leb-true, eqb-true, le-leb, lt-leb, eq-eqb, ne_eqb}
+use borrow.Author.Tests.{leb-true, eqb-true, le-leb, eq-eqb}
 use Rattle.state.specs.Seq.{all_b}
 use Rattle.state.proofs.Tests.{and_l, and_r, and4}
 use Rattle.entry_tree.specs.Pairs.{Pair, count, is_entry, has_entry, in_order, in_range, once_b}
@@ -76,37 +75,32 @@ of_whole b w = rw (eq-eqb (length b) 389 w.long, le-leb (tree.size (tree_part b)
 pub size_is : (b : List ℕ) → tree.size (tree_part b) ≡ get_or b 0 0
 size_is b = get_or-take 385 b 0 0 (omega arith)
 
-pub no_length : (b : List ℕ) → length b ≢ 389 → whole_b b ≡ false
-unfolding whole_b
-no_length b h = rw (ne_eqb (length b) 389 h)
-
-module _ (b : List ℕ) (l : length b ≡ 389) where
+module _ (b : List ℕ) (l : length b ≡ 389) (h : get_or b 0 0 ≤ 128) where
   abbrev m : Registry
   m = read b
 
-  pub no_size : 128 < get_or b 0 0 → whole_b b ≡ false
-  unfolding whole_b
-  no_size h = rw (eq-eqb (length b) 389 l, lt-leb (tree.size (tree_part b)) 128 (omega (arith, size_is b)))
+  tested : whole_b b ≡ (pairs_fit_b 8191 true m.entries && walk_b m.entries m.walk)
+  unfolding whole_b registry.whole_b pairs_fit_b
+  tested =
+      rw (eq-eqb (length b) 389 l, le-leb (tree.size (tree_part b)) 128 (omega (arith, size_is b)), order_same 0 m.entries)
+      (assoc (in_range 8191 m.entries) (all_b 128 (once_b m.entries)) (in_order 0 m.entries) (walk_b m.entries m.walk))
+    where
+      assoc : (p q r w : Bool) → (p && (q && (r && w))) ≡ ((p && (q && r)) && w)
+      assoc true true r w = refl
+      assoc true false r w = refl
+      assoc false q r w = refl
 
-  module _ (h : get_or b 0 0 ≤ 128) where
-    tested : whole_b b ≡ (pairs_fit_b 8191 true m.entries && walk_b m.entries m.walk)
-    unfolding whole_b registry.whole_b pairs_fit_b
-    tested =
-        rw (eq-eqb (length b) 389 l, le-leb (tree.size (tree_part b)) 128 (omega (arith, size_is b)), order_same 0 m.entries)
-        (assoc (in_range 8191 m.entries) (all_b 128 (once_b m.entries)) (in_order 0 m.entries) (walk_b m.entries m.walk))
-      where
-        assoc : (p q r w : Bool) → (p && (q && (r && w))) ≡ ((p && (q && r)) && w)
-        assoc true true r w = refl
-        assoc true false r w = refl
-        assoc false q r w = refl
+  -- the tree's test came to r; where it said yes, the walk's decides
+  module _ (seen : List ℕ) (r : Bool) (f : Fit 8191 true seen m.entries r) where
+    all_tested : whole_b b ≡ (r && walk_b m.entries m.walk)
+    all_tested = tested ∙ ap (λ (t : Bool). t && walk_b m.entries m.walk) (sym f.test)
 
-    module _ (seen : List ℕ) (r : Bool) (f : Fit 8191 true seen m.entries r) where
-      pub no_pairs : r ≡ false → whole_b b ≡ false
-      no_pairs q = tested ∙ ap (λ (t : Bool). t && walk_b m.entries m.walk) (sym f.test ∙ q)
+    pub no_pairs : r ≡ false → r ≡ whole_b b
+    no_pairs q = q ∙ sym (rw q at all_tested)
 
-      same_walk : r ≡ true → (w : Option ℕ) → pointed_b seen w ≡ walk_b m.entries w
-      same_walk q None = refl
-      same_walk q (Some e) = f.marks q e
+    same_walk : r ≡ true → (w : Option ℕ) → pointed_b seen w ≡ walk_b m.entries w
+    same_walk q None = refl
+    same_walk q (Some e) = f.marks q e
 
-      pub whole-last : r ≡ true → pointed_b seen (walk_of (get_or b 385 0)) ≡ whole_b b
-      whole-last q = same_walk q m.walk ∙ sym (tested ∙ ap (λ (t : Bool). t && walk_b m.entries m.walk) (sym f.test ∙ q))
+    pub whole_last : r ≡ true → pointed_b seen (walk_of (get_or b 385 0)) ≡ whole_b b
+    whole_last q = same_walk q m.walk ∙ sym (rw q at all_tested)

@@ -1,12 +1,12 @@
 -- Each call keeps a whole registry whole.
 use Prim.Native.Nat.{ℕ, ◌<◌, ◌≤◌}
 use mathlib.Core.Path.{◌≡◌, refl}
-use Rattle.std.specs.Prelude.{Option, None, Some, is_some}
-use mathlib.Core.Bool.{true, false, cond}
+use Rattle.std.specs.Prelude.{Option, None, Some}
+use mathlib.Core.Bool.{true, false}
 use native.Mathlib.Omega.{arith}
 use lib.Dec.{ltb}
 use borrow.Author.Tests.{ltb-false}
-use Rattle.state.specs.Result.{Result, refuse, done, left}
+use Rattle.state.specs.Outcome.{Outcome, left}
 use Rattle.state.proofs.Tests.{by_cond}
 use Rattle.entry_tree.specs.Pairs.{pair, count, is_entry, has_entry, place_of}
 use Rattle.entry_tree.specs.Walks.{first_on}
@@ -16,8 +16,6 @@ use Rattle.entry_tree.proofs.Walking.{none-some, first_entry, first-in, find-res
 use Rattle.loop_back.specs.Registry as registry
 use Rattle.loop_back.specs.Registry.{Registry, fresh}
 use Rattle.loop_back.specs.Steps.{joins, goes_on, leaves, with_walk, push_next, Call, Register, Unregister, HubPushStart, HubPushNext, step, register, unregister, hub_push_start, hub_push_next}
-use Rattle.loop_back.specs.declared.Answer.{Answer}
-use Rattle.loop_back.specs.declared.Answer.TheVariants.{Refused, Done, Started}
 use Rattle.loop_back.proofs.Facts.{Facts, facts_of, of_facts}
 
 pub fresh-facts : Facts fresh
@@ -43,26 +41,24 @@ module _ (m : Registry) (f : Facts m) where
   walk-facts : (w : Option ℕ) → ((e : ℕ) → w ≡ Some e → 0 < count (is_entry e) m.entries) → Facts (with_walk w m)
   walk-facts w g = record { range = f.range; once = f.once; order = f.order; walks = g }
 
-  next-facts : (w : Option ℕ) → Facts (left m (push_next w m))
+  abbrev Left : {A : Type 0} → Outcome A Registry → Type 0
+  Left o = Facts (left m o)
+
+  next-facts : (w : Option ℕ) → Left (push_next w m)
   next-facts None = f
   next-facts (Some e) = walk-facts (goes_on (place_of e m.entries)) (λ w q. omega (arith, first_entry w (place_of e m.entries).rest q, find-rest w e 0 m.entries))
-
-  abbrev Left : Result Answer Registry → Type 0
-  Left o = Facts (left m o)
 
   keeps : (k : Call) → Left (step k m)
   unfolding register unregister hub_push_start hub_push_next
   keeps (Register e x) =
-      by_cond Left (ltb 127 e) {a = refuse (Refused 2)} {b = cond (ltb 8191 x) (refuse (Refused 3)) (cond (has_entry e m.entries) (refuse (Refused 5)) (done Done (joins e x m)))} (λ t. f) (λ p.
-      by_cond Left (ltb 8191 x) {a = refuse (Refused 3)} {b = cond (has_entry e m.entries) (refuse (Refused 5)) (done Done (joins e x m))} (λ t. f) (λ q.
-      by_cond Left (has_entry e m.entries) {a = refuse (Refused 5)} {b = done Done (joins e x m)} (λ t. f) (λ r.
+      by_cond Left (ltb 127 e) (λ _. f) (λ p.
+      by_cond Left (ltb 8191 x) (λ _. f) (λ q.
+      by_cond Left (has_entry e m.entries) (λ _. f) (λ r.
       join-facts e x (ltb-false 127 e p) (ltb-false 8191 x q) r)))
   keeps (Unregister e) =
-      by_cond Left (ltb 127 e) {a = refuse (Refused 2)} {b = cond (has_entry e m.entries) (done Done (leaves e m)) (refuse (Refused 8))} (λ t. f) (λ p.
-      by_cond Left (has_entry e m.entries) {a = done Done (leaves e m)} {b = refuse (Refused 8)} (λ t. leave_facts e) (λ t. f))
-  keeps (HubPushStart x) =
-      let w = first_on x m.entries in
-      by_cond Left (ltb 8191 x) {a = refuse (Refused 3)} {b = done (Started (is_some w)) (with_walk w m)} (λ t. f) (λ t. walk-facts w (λ e. first-in x e m.entries))
+      by_cond Left (ltb 127 e) (λ _. f) (λ _.
+      by_cond Left (has_entry e m.entries) (λ _. leave_facts e) (λ _. f))
+  keeps (HubPushStart x) = by_cond Left (ltb 8191 x) (λ _. f) (λ _. walk-facts (first_on x m.entries) (λ e. first-in x e m.entries))
   keeps HubPushNext = next-facts m.walk
 
 pub step_valid : (k : Call) (m : Registry) → registry.whole_b m ≡ true → registry.whole_b (left m (step k m)) ≡ true

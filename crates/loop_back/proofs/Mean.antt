@@ -10,9 +10,10 @@ use lib.ListN.{length, get_or, drop, replicate, length-replicate}
 use lib.Seq.{get_or-drop}
 use borrow.Author.Tests.{eqb-true}
 use Rattle.state.specs.Lengths.{loop_back_length}
-use Rattle.state.specs.Result.{done, Bytes}
+use Rattle.state.specs.Outcome.{done, Bytes}
+use Rattle.state.specs.declared.Refusal.TheVariants.{NotWhole}
 use Rattle.state.proofs.Bytes.{bytes-part, bytes-append}
-use Rattle.state.proofs.Calls.{opened-is, means_of}
+use Rattle.state.proofs.Outcomes.{opened-is, means_of}
 use Rattle.state.proofs.Filled.{zero-bytes}
 use Rattle.entry_tree.specs.Places as tree
 use Rattle.entry_tree.specs.Walks.{walk_of, walk_over}
@@ -25,8 +26,6 @@ use Rattle.loop_back.specs.Bytes.{tree_part, whole_b, read, laid}
 use Rattle.loop_back.specs.Steps.{step}
 use Rattle.loop_back.specs.Calls.{opening}
 use Rattle.loop_back.specs.Means.{Valid, Sized, LoopBackMeans}
-use Rattle.loop_back.specs.declared.Answer.{Answer}
-use Rattle.loop_back.specs.declared.Answer.TheVariants.{Refused, Done}
 use Rattle.loop_back.proofs.Parts.{Joined, tree_is, byte-is, long, split, laid-joined, laid_from}
 use Rattle.loop_back.proofs.Facts.{Facts, facts_of, of_facts, at_most, whole_of, of_whole}
 use Rattle.loop_back.proofs.Keeping.{fresh-facts, step_valid}
@@ -85,10 +84,10 @@ module _ (m : Registry) (b : List ℕ) (y : Bytes b) (f : Valid m) (l : length b
 
 -- ---- the theorem
 
-opened : (b : ℕ) (a : Answer) (m : Registry) → opening b ≡ done a m → whole_b (laid m (replicate b 0)) ≡ true
+opened : (b : ℕ) (a : Unit {0}) (m : Registry) → opening b ≡ done a m → whole_b (laid m (replicate b 0)) ≡ true
 unfolding opening
 opened b a m q =
-    let i = opened-is (eqb b loop_back_length) Done (Refused 1) fresh a m q in
+    let i = opened-is (eqb b loop_back_length) tt NotWhole fresh a m q in
     subst (λ (x : Registry). whole_b (laid x (replicate b 0)) ≡ true) i.1
     (laid_whole fresh (replicate b 0) (zero-bytes b) (of_facts fresh fresh-facts) (length-replicate {A = ℕ} b 0 ∙ eqb-true b loop_back_length i.0))
 
@@ -96,5 +95,5 @@ pub means : LoopBackMeans
 means =
     record {
       opened = opened;
-      meaning = means_of whole_b read laid (Refused 1) Valid Sized laid_bytes laid_whole read_laid step (λ b y h. (whole_of b h).means) (λ b h. (whole_of b h).long) laid_read step_valid (λ k m n f z. z);
+      meaning = means_of whole_b read laid Valid Sized laid_bytes laid_whole read_laid step (λ b y h. (whole_of b h).means) (λ b h. (whole_of b h).long) laid_read step_valid (λ k m n f z. z);
     }

@@ -1,23 +1,22 @@
 -- The calls of the loop-back registry on bytes.
 use Rattle.std.specs.Prelude.{ℕ, cond, List, length, replicate, eqb}
 use Rattle.state.specs.Lengths.{loop_back_length}
-use Rattle.state.specs.Result as state
-use Rattle.state.specs.Result.{Result, refuse, done}
+use Rattle.state.specs.Outcome as state
+use Rattle.state.specs.Outcome.{Outcome, refuse, done}
+use Rattle.state.specs.declared.Refusal.TheVariants.{NotWhole}
 use Rattle.loop_back.specs.Registry.{Registry, fresh}
 use Rattle.loop_back.specs.Bytes.{whole_b, read, laid}
-use Rattle.loop_back.specs.declared.Answer.{Answer}
-use Rattle.loop_back.specs.declared.Answer.TheVariants.{Refused, Done}
 
-abbrev pub on : (Registry → Result Answer Registry) → List ℕ → Result Answer Registry
-on f b = state.called whole_b read (Refused 1) f b
+abbrev pub on : {A : Type 0} → (Registry → Outcome A Registry) → List ℕ → Outcome A Registry
+on f b = state.called whole_b read f b
 
-abbrev pub bytes : List ℕ → Result Answer Registry → List ℕ
+abbrev pub bytes : {A : Type 0} → List ℕ → Outcome A Registry → List ℕ
 bytes b r = state.bytes laid b r
 
--- b bytes are opened: 1 for another length
-unfoldable pub opening : ℕ → Result Answer Registry
-opening b = cond (eqb b loop_back_length) (done Done fresh) (refuse (Refused 1))
+-- b bytes are opened: refused for another length
+unfoldable pub opening : ℕ → Outcome (Unit {0}) Registry
+opening b = cond (eqb b loop_back_length) (done tt fresh) (refuse NotWhole)
 
 -- opening keeps nothing of the old bytes: what says nothing is 0
-abbrev pub opened_bytes : List ℕ → Result Answer Registry → List ℕ
+abbrev pub opened_bytes : List ℕ → Outcome (Unit {0}) Registry → List ℕ
 opened_bytes b r = state.bytes (λ m x. laid m (replicate (length x) 0)) b r

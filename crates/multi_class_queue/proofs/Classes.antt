@@ -1,14 +1,13 @@
 -- The class whose front, or back, an entry is: the node before it, or after it, where that is a class.
-use Prim.Native.Nat.{ℕ, zero, suc, ◌+◌, ◌<◌, ◌≤◌}
+use Prim.Native.Nat.{ℕ, zero, suc, ◌+◌, ◌<◌}
 use mathlib.Core.Path.{◌≡◌, refl, sym, ap, ◌∙◌}
 use mathlib.Core.List.{List, [], ◌∷◌}
-use mathlib.Core.Bool.{Bool, true, false, cond}
+use mathlib.Core.Bool.{Bool, true, false}
 use native.Mathlib.Omega.{arith}
 use native.Mathlib.Decide.{dec_lt}
 use native.Mathlib.Nat.{not-suc-le-zero}
-use lib.Dec.{ltb}
 use borrow.Author.Tests.{lt-ltb, le-ltb, eqb-true, eq-eqb}
-use Rattle.std.specs.Prelude.{Option, Some, None}
+use Rattle.std.specs.Prelude.{Some, None}
 use Rattle.state.specs.Seq.{each}
 use Rattle.state.proofs.Tests.{not-both, false_of}
 use Rattle.multi_cycle_list.specs.Nodes.{classes, entries, next, prev, whole_b, list_of, lists_of}
@@ -16,6 +15,7 @@ use Rattle.multi_cycle_list.specs.Lists.{first, last}
 use Rattle.multi_cycle_list.proofs.Chain.{Chain}
 use Rattle.multi_cycle_list.proofs.Sound.{linked_in, sound}
 use Rattle.multi_class_queue.specs.Calls.{says, which}
+use Rattle.multi_class_queue.specs.Inner.{as_class}
 
 which-at : (t : List ℕ → Bool) (n : ℕ) (f : ℕ → List ℕ) (k c : ℕ) → c < n → t (f c) ≡ true → ((d : ℕ) → d < n → t (f d) ≡ true → d ≡ c) → which t k (each n f) ≡ Some (k + c)
 unfolding which each
@@ -57,49 +57,30 @@ module _ (C : ℕ) (nx pv : ℕ → ℕ) (e : ℕ) where
   last_says [] c hc p h = absurd (omega (arith, p.1))
   last_says (x ∷ xs) c hc p h = last_more x xs c p.1 h
 
-module _ (s : List ℕ) (e : ℕ) (h : whole_b s ≡ true) (he : e < entries s) where
-  -- the node n as a class
-  abbrev as_class : ℕ → Option ℕ
-  as_class n = cond (ltb n (classes s)) (Some n) None
-
-  head_class : as_class (prev s (classes s + e)) ≡ which (λ r. says e (first r)) 0 (lists_of s)
+module _ (s : List ℕ) (h : whole_b s ≡ true) where
+  -- a test that is true of the class p's list alone, if p is a class
+  one-class : (t : List ℕ → Bool) (p : ℕ) → ((d : ℕ) → d < classes s → t (list_of s d) ≡ true → p ≡ d) → (p < classes s → t (list_of s p) ≡ true) → which t 0 (lists_of s) ≡ as_class s p
   unfolding lists_of
-  head_class =
+  one-class t p only is =
       let C = classes s in
-      let t : List ℕ → Bool = λ r. says e (first r) in
-      let p = prev s (C + e) in
-      let l = linked_in s h (C + e) (omega arith) in
-      let u : (d : ℕ) → d < C → t (list_of s d) ≡ true → d ≡ p = λ d hd z. sym (says_first C (next s) (prev s) e (list_of s d) d ((sound s h).chains d hd) z) in
       elim (dec_lt p C) [
-        | yes q ↦ rw (lt-ltb p C q)
-            (let o : 0 + p ≡ p = omega arith in
-            sym (which-at t C (list_of s) 0 p q (first_says C (next s) (prev s) e (list_of s p) p q ((sound s h).chains p q) l.forth) u ∙ ap Some o))
-        | no q ↦ rw (le-ltb p C (omega arith)) (sym (which-none t C (list_of s) 0 (λ d hd z. q (omega (arith, u d hd z)))))
+        | yes q ↦ (let o : 0 + p ≡ p = omega arith in rw (lt-ltb p C q) (which-at t C (list_of s) 0 p q (is q) (λ d hd z. sym (only d hd z)) ∙ ap Some o))
+        | no q ↦ rw (le-ltb p C (omega arith)) (which-none t C (list_of s) 0 (λ d hd z. q (omega (arith, only d hd z))))
       ]
 
-  tail_class : as_class (next s (classes s + e)) ≡ which (λ r. says e (last r)) 0 (lists_of s)
-  unfolding lists_of
-  tail_class =
-      let C = classes s in
-      let t : List ℕ → Bool = λ r. says e (last r) in
-      let p = next s (C + e) in
-      let l = linked_in s h (C + e) (omega arith) in
-      let u : (d : ℕ) → d < C → t (list_of s d) ≡ true → d ≡ p = λ d hd z. sym (says_last C (next s) (prev s) e (list_of s d) d d ((sound s h).chains d hd) z) in
-      elim (dec_lt p C) [
-        | yes q ↦ rw (lt-ltb p C q)
-            (let o : 0 + p ≡ p = omega arith in
-            sym (which-at t C (list_of s) 0 p q (last_says C (next s) (prev s) e (list_of s p) p q ((sound s h).chains p q) l.back) u ∙ ap Some o))
-        | no q ↦ rw (le-ltb p C (omega arith)) (sym (which-none t C (list_of s) 0 (λ d hd z. q (omega (arith, u d hd z)))))
-      ]
+  module _ (e : ℕ) (he : e < entries s) where
+    pub front_class : which (λ r. says e (first r)) 0 (lists_of s) ≡ as_class s (prev s (classes s + e))
+    front_class =
+        let C = classes s in
+        let p = prev s (C + e) in
+        one-class (λ r. says e (first r)) p
+        (λ d hd z. says_first C (next s) (prev s) e (list_of s d) d ((sound s h).chains d hd) z)
+        (λ q. first_says C (next s) (prev s) e (list_of s p) p q ((sound s h).chains p q) (linked_in s h (C + e) (omega arith)).forth)
 
-  pub head_in : prev s (classes s + e) < classes s → which (λ r. says e (first r)) 0 (lists_of s) ≡ Some (prev s (classes s + e))
-  head_in q = sym (rw (lt-ltb (prev s (classes s + e)) (classes s) q) at head_class)
-
-  pub head_not : classes s ≤ prev s (classes s + e) → which (λ r. says e (first r)) 0 (lists_of s) ≡ None
-  head_not q = sym (rw (le-ltb (prev s (classes s + e)) (classes s) q) at head_class)
-
-  pub tail_in : next s (classes s + e) < classes s → which (λ r. says e (last r)) 0 (lists_of s) ≡ Some (next s (classes s + e))
-  tail_in q = sym (rw (lt-ltb (next s (classes s + e)) (classes s) q) at tail_class)
-
-  pub tail_not : classes s ≤ next s (classes s + e) → which (λ r. says e (last r)) 0 (lists_of s) ≡ None
-  tail_not q = sym (rw (le-ltb (next s (classes s + e)) (classes s) q) at tail_class)
+    pub back_class : which (λ r. says e (last r)) 0 (lists_of s) ≡ as_class s (next s (classes s + e))
+    back_class =
+        let C = classes s in
+        let p = next s (C + e) in
+        one-class (λ r. says e (last r)) p
+        (λ d hd z. says_last C (next s) (prev s) e (list_of s d) d d ((sound s h).chains d hd) z)
+        (λ q. last_says C (next s) (prev s) e (list_of s p) p q ((sound s h).chains p q) (linked_in s h (C + e) (omega arith)).back)

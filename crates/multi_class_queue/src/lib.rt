@@ -1,14 +1,15 @@
 // `MultiClassQueue`'s calls over lent bytes. `NotWhole`: the bytes are not whole. `Size`: a class or an entry past the size, or sizes not allowed.
-#![tactic(auto)]
+#![tactic(auto, using(crate::proofs::Sizes::sizes))]
 
 ghost use Rattle.std.specs.Prelude.{◌≡◌, ◌<◌, length};
 ghost use Rattle.state.specs.Outcome.{answer};
-ghost use Rattle.multi_class_queue.specs.Inner.{checked, move_checked};
+ghost use Rattle.multi_class_queue.specs.Inner.{checked, move_checked, class_checked};
 ghost use Rattle.multi_class_queue.specs.Calls.{on, bytes, opening, front, back, is_empty, is_front, is_back, remove, move_front, move_back, ListsMean};
 
 use multi_cycle_list::inner::{
     inner_back, inner_front, inner_move_back, inner_move_front, inner_open, inner_remove,
 };
+use multi_cycle_list::link::Link;
 use multi_cycle_list::whole::whole;
 use state::Refusal;
 
@@ -29,7 +30,6 @@ pub fn open(s: &mut [u8], classes: u32, entries: u32) -> Result<(), Refusal>
 }
 
 // That the bytes are whole, and then that `x` is below the size in byte `at`.
-#[tactic(auto, using(crate::proofs::Sizes::whole_length))]
 fn check(s: &[u8], at: usize, x: u32) -> Result<(), Refusal>
     requires { at < 2 }
     ensures { result ≡ checked s.now at x }
@@ -44,7 +44,6 @@ fn check(s: &[u8], at: usize, x: u32) -> Result<(), Refusal>
 }
 
 // The same for a class and an entry.
-#[tactic(auto, using(crate::proofs::Sizes::whole_length))]
 fn check_move(s: &[u8], class: u32, entry: u32) -> Result<(), Refusal>
     ensures { result ≡ move_checked s.now class entry }
 {
@@ -55,7 +54,8 @@ fn check_move(s: &[u8], class: u32, entry: u32) -> Result<(), Refusal>
     Ok(())
 }
 
-#[tactic(auto, using(crate::proofs::Sizes::rows_length), unfolding(crate::specs::Calls::front))]
+// The calls on the front and the back share `check` and `check_move`; what is left of each is one call of the cycle lists.
+#[tactic(auto, using(crate::proofs::Sizes::sizes), unfolding(crate::specs::Calls::front))]
 pub fn front(s: &[u8], class: u32) -> Result<Option<u8>, Refusal>
     ensures { result ≡ answer (on (front class) s.now) }
 {
@@ -63,7 +63,7 @@ pub fn front(s: &[u8], class: u32) -> Result<Option<u8>, Refusal>
     Ok(inner_front(s, class as usize))
 }
 
-#[tactic(auto, using(crate::proofs::Sizes::rows_length), unfolding(crate::specs::Calls::back))]
+#[tactic(auto, using(crate::proofs::Sizes::sizes), unfolding(crate::specs::Calls::back))]
 pub fn back(s: &[u8], class: u32) -> Result<Option<u8>, Refusal>
     ensures { result ≡ answer (on (back class) s.now) }
 {
@@ -71,7 +71,7 @@ pub fn back(s: &[u8], class: u32) -> Result<Option<u8>, Refusal>
     Ok(inner_back(s, class as usize))
 }
 
-#[tactic(auto, using(crate::proofs::Sizes::rows_length), unfolding(crate::specs::Calls::is_empty))]
+#[tactic(auto, using(crate::proofs::Sizes::sizes), unfolding(crate::specs::Calls::is_empty))]
 pub fn is_empty(s: &[u8], class: u32) -> Result<bool, Refusal>
     ensures { result ≡ answer (on (is_empty class) s.now) }
 {
@@ -79,25 +79,29 @@ pub fn is_empty(s: &[u8], class: u32) -> Result<bool, Refusal>
     Ok(inner_front(s, class as usize).is_none())
 }
 
-// The class whose front the entry is: the class before its node, if one is.
-#[tactic(auto, using(crate::proofs::Sizes::whole_length, crate::proofs::Classes::head_in, crate::proofs::Classes::head_not), unfolding(crate::specs::Calls::is_front))]
+// The class that the link of the entry's node leads to, if it leads to one.
+fn class_at(s: &[u8], entry: u32, link: Link) -> Result<Option<u8>, Refusal>
+    ensures { result ≡ class_checked s.now entry link }
+{
+    check(s, 1, entry)?;
+    let node = usize::from(s[0]) + entry as usize;
+    let to = s[link.offset() + 2 * node];
+    Ok((to < s[0]).then_some(to))
+}
+
+// The class whose front the entry is.
+#[tactic(auto, using(crate::proofs::Classes::front_class), unfolding(crate::specs::Calls::is_front))]
 pub fn is_front(s: &[u8], entry: u32) -> Result<Option<u8>, Refusal>
     ensures { result ≡ answer (on (is_front entry) s.now) }
 {
-    check(s, 1, entry)?;
-    let classes = s[0];
-    let prev = s[3 + 2 * (usize::from(classes) + entry as usize)];
-    Ok(if prev < classes { Some(prev) } else { None })
+    class_at(s, entry, Link::Prev)
 }
 
-#[tactic(auto, using(crate::proofs::Sizes::whole_length, crate::proofs::Classes::tail_in, crate::proofs::Classes::tail_not), unfolding(crate::specs::Calls::is_back))]
+#[tactic(auto, using(crate::proofs::Classes::back_class), unfolding(crate::specs::Calls::is_back))]
 pub fn is_back(s: &[u8], entry: u32) -> Result<Option<u8>, Refusal>
     ensures { result ≡ answer (on (is_back entry) s.now) }
 {
-    check(s, 1, entry)?;
-    let classes = s[0];
-    let next = s[2 + 2 * (usize::from(classes) + entry as usize)];
-    Ok(if next < classes { Some(next) } else { None })
+    class_at(s, entry, Link::Next)
 }
 
 #[tactic(auto, unfolding(crate::specs::Calls::remove))]
@@ -109,7 +113,7 @@ pub fn remove(s: &mut [u8], entry: u32) -> Result<(), Refusal>
     Ok(())
 }
 
-#[tactic(auto, using(crate::proofs::Sizes::rows_length), unfolding(crate::specs::Calls::move_front))]
+#[tactic(auto, using(crate::proofs::Sizes::sizes), unfolding(crate::specs::Calls::move_front))]
 pub fn move_front(s: &mut [u8], class: u32, entry: u32) -> Result<(), Refusal>
     ensures { (result ≡ answer (on (move_front class entry) s.old)) × (s.new ≡ bytes s.old (on (move_front class entry) s.old)) }
 {
@@ -118,7 +122,7 @@ pub fn move_front(s: &mut [u8], class: u32, entry: u32) -> Result<(), Refusal>
     Ok(())
 }
 
-#[tactic(auto, using(crate::proofs::Sizes::rows_length), unfolding(crate::specs::Calls::move_back))]
+#[tactic(auto, using(crate::proofs::Sizes::sizes), unfolding(crate::specs::Calls::move_back))]
 pub fn move_back(s: &mut [u8], class: u32, entry: u32) -> Result<(), Refusal>
     ensures { (result ≡ answer (on (move_back class entry) s.old)) × (s.new ≡ bytes s.old (on (move_back class entry) s.old)) }
 {

@@ -13,7 +13,9 @@ use Rattle.state.specs.Lengths.{lists_allowed, lists_length}
 use Rattle.state.specs.Seq.{each}
 use Rattle.state.proofs.Seq.{length-each}
 use Rattle.multi_cycle_list.specs.Nodes.{classes, entries, next, prev, whole_b, list_of, lists_of, read}
-use Rattle.multi_cycle_list.specs.Inner.{unbind_b, bind_b, alone_to, as_entry, Movable}
+use Rattle.multi_cycle_list.specs.declared.link.Link.{Link}
+use Rattle.multi_cycle_list.specs.declared.link.Link.TheVariants.{Next, Prev}
+use Rattle.multi_cycle_list.specs.Inner.{unbind_b, bind_b, beside_b, moved, alone_to, as_entry, Movable}
 use Rattle.multi_cycle_list.specs.Lists.{Lists, Valid, counts, row, first, last, removed, pushed_front, pushed_back, with_rows, without_entry, moved_front, moved_back, empty}
 use Rattle.multi_cycle_list.specs.Laid.{laid}
 use Rattle.multi_cycle_list.proofs.WholeTools.{whole-sizes, allowed_of}
@@ -33,8 +35,8 @@ rows-length s = length-each (classes s) (list_of s)
 -- ---- the answers, from the links
 
 module _ (s : List ℕ) (c : ℕ) (h : whole_b s ≡ true) (hc : c < classes s) where
-  pub front-is : as_entry s (next s c) ≡ first (row (read s) c)
-  front-is = first_of s c (list_of s c) hc ((sound s h).chains c hc) ∙ ap first (sym (list_at s c hc))
+  pub front_is : first (row (read s) c) ≡ as_entry s (next s c)
+  front_is = ap first (list_at s c hc) ∙ sym (first_of s c (list_of s c) hc ((sound s h).chains c hc))
 
   -- behind the front e
   pub second_is : (e : ℕ) → first (row (read s) c) ≡ Some e → as_entry s (next s (classes s + e)) ≡ first (drop 1 (row (read s) c))
@@ -52,8 +54,8 @@ module _ (s : List ℕ) (c : ℕ) (h : whole_b s ≡ true) (hc : c < classes s) 
       go [] p z = absurd (let o : ◌≡◌ {A = ℕ} 0 1 = cc in omega arith)
       go (x ∷ l) p z = let y : x ≡ e = cc in omega (arith, p.0)
 
-  pub back_is : as_entry s (prev s c) ≡ last (row (read s) c)
-  back_is = last_of s c (list_of s c) hc ((sound s h).chains c hc) ∙ ap last (sym (list_at s c hc))
+  pub back_is : last (row (read s) c) ≡ as_entry s (prev s c)
+  back_is = ap last (list_at s c hc) ∙ sym (last_of s c (list_of s c) hc ((sound s h).chains c hc))
 
 -- an entry that is linked to itself heads no chain to a class
 no_loop : (C : ℕ) (nx pv : ℕ → ℕ) (e b : ℕ) → b < C → nx (C + e) ≡ C + e → (vs : List ℕ) → Chain C nx pv (C + e) vs b → ⊥
@@ -63,8 +65,8 @@ no_loop C nx pv e b hb l (v ∷ vs) p =
     no_loop C nx pv e b hb l vs (subst (λ (z : ℕ). Chain C nx pv (C + z) vs b) q p.1)
 
 module _ (s : List ℕ) (e : ℕ) (h : whole_b s ≡ true) (he : e < entries s) where
-  pub linked-is : not (eqb (next s (classes s + e)) (classes s + e)) ≡ ltb 0 (counts e (lists_of s))
-  linked-is =
+  pub linked_is : ltb 0 (counts e (lists_of s)) ≡ not (eqb (next s (classes s + e)) (classes s + e))
+  linked_is =
       let C = classes s in
       let r = sound s h in
       elim (dec_lt 0 (counts e (lists_of s))) [
@@ -72,15 +74,15 @@ module _ (s : List ℕ) (e : ℕ) (h : whole_b s ≡ true) (he : e < entries s) 
             (let w = counts_in e (lists_of s) q in
             let hc : w.0 < C = omega (arith, w.1, rows-length s) in
             let v = tail_from C (next s) (prev s) (list_of s w.0) w.0 w.0 e (r.chains w.0 hc) (subst (λ (l : List ℕ). In e l) (list_at s w.0 hc) w.2) in
-            ap not (ne_eqb (next s (C + e)) (C + e) (λ l. no_loop C (next s) (prev s) e w.0 hc l v.0 v.1)) ∙ sym (lt-ltb 0 (counts e (lists_of s)) q))
+            lt-ltb 0 (counts e (lists_of s)) q ∙ sym (ap not (ne_eqb (next s (C + e)) (C + e) (λ l. no_loop C (next s) (prev s) e w.0 hc l v.0 v.1))))
         | no q ↦
-            ap not (eq-eqb (next s (C + e)) (C + e)
+            le-ltb 0 (counts e (lists_of s)) (omega arith)
+            ∙ sym (ap not (eq-eqb (next s (C + e)) (C + e)
             (⊎_elim
             (λ (w : (c : ℕ) × (c < C) × In e (list_of s c)).
             absurd (q (omega (arith, row_count e (lists_of s) w.0, in_count e (get_or (lists_of s) w.0 []) (subst (λ (l : List ℕ). In e l) (sym (list_at s w.0 w.1)) w.2)))))
             (λ l. l.0)
-            (r.places e he)))
-            ∙ sym (le-ltb 0 (counts e (lists_of s)) (omega arith))
+            (r.places e he))))
       ]
 
 -- ---- the bytes that each change leaves
@@ -101,19 +103,23 @@ turned-laid s t ls h w rs q =
     record { is = sym (laid_read t z) ∙ ap (λ (m : Lists). laid m) r; valid = subst (λ (m : Lists). Valid m) r (read-valid t z) }
 
 module _ (s : List ℕ) (e : ℕ) (h : whole_b s ≡ true) (he : e < entries s) where
-  pub remove-laid : Lays (unbound s e) (with_rows (read s) (removed e (lists_of s)))
-  remove-laid = turned-laid s _ _ h (unbound-turned s e h he) _ (removed-is s e h he)
+  pub remove_laid : Lays (unbound s e) (with_rows (read s) (removed e (lists_of s)))
+  remove_laid = turned-laid s _ _ h (unbound-turned s e h he) _ (removed-is s e h he)
 
   module _ (c : ℕ) (hc : c < classes s) where
-    pub front-laid : Lays (bind_b (unbound s e) (node_of s e) c (next (unbound s e) c)) (with_rows (read s) (pushed_front c e (removed e (lists_of s))))
+    front-laid : Lays (bind_b (unbound s e) (node_of s e) c (next (unbound s e) c)) (with_rows (read s) (pushed_front c e (removed e (lists_of s))))
     front-laid =
         turned-laid s _ _ h (front-turned s e h he c hc) _
         (pushed-is s e h he c hc _ ∙ ap (λ (l : List ℕ). set (removed e (lists_of s)) c (e ∷ l)) (taken_is s e h he c hc))
 
-    pub back-laid : Lays (bind_b (unbound s e) (node_of s e) (prev (unbound s e) c) c) (with_rows (read s) (pushed_back c e (removed e (lists_of s))))
+    back-laid : Lays (bind_b (unbound s e) (node_of s e) (prev (unbound s e) c) c) (with_rows (read s) (pushed_back c e (removed e (lists_of s))))
     back-laid =
         turned-laid s _ _ h (back-turned s e h he c hc) _
         (pushed-is s e h he c hc _ ∙ ap (λ (l : List ℕ). set (removed e (lists_of s)) c (l ++ (e ∷ []))) (taken_is s e h he c hc))
+
+    pub moved_laid : (side : Link) → Lays (beside_b (unbound s e) (node_of s e) c side) (moved side c e (read s))
+    moved_laid Next = front-laid
+    moved_laid Prev = back-laid
 
 -- ---- the entry's node, taken out, can be put in next to a class
 
@@ -148,17 +154,17 @@ module _ (m : Lists) (f : Valid m) (e : ℕ) (he : e < m.entries) where
   entry_in = omega (arith, ap (λ (x : Lists). x.entries) (read_laid m f))
 
   pub remove-valid : Valid (without_entry e m)
-  remove-valid = subst (λ (x : Lists). Valid (without_entry e x)) (read_laid m f) (remove-laid (laid m) e (laid_whole m f) entry_in).valid
+  remove-valid = subst (λ (x : Lists). Valid (without_entry e x)) (read_laid m f) (remove_laid (laid m) e (laid_whole m f) entry_in).valid
 
   module _ (c : ℕ) (hc : c < length m.rows) where
     class_in : c < classes (laid m)
     class_in = omega (arith, rows-length (laid m), ap (λ (x : Lists). length x.rows) (read_laid m f))
 
     pub front-valid : Valid (moved_front c e m)
-    front-valid = subst (λ (x : Lists). Valid (moved_front c e x)) (read_laid m f) (front-laid (laid m) e (laid_whole m f) entry_in c class_in).valid
+    front-valid = subst (λ (x : Lists). Valid (moved_front c e x)) (read_laid m f) (moved_laid (laid m) e (laid_whole m f) entry_in c class_in Next).valid
 
     pub back-valid : Valid (moved_back c e m)
-    back-valid = subst (λ (x : Lists). Valid (moved_back c e x)) (read_laid m f) (back-laid (laid m) e (laid_whole m f) entry_in c class_in).valid
+    back-valid = subst (λ (x : Lists). Valid (moved_back c e x)) (read_laid m f) (moved_laid (laid m) e (laid_whole m f) entry_in c class_in Prev).valid
 
 pub empty-valid : (c e : ℕ) → lists_allowed c e ≡ true → Valid (empty c e)
 empty-valid c e h = (fresh (replicate (lists_length c e) 0) c e h (length-replicate {A = ℕ} (lists_length c e) 0)).valid

@@ -11,7 +11,7 @@ use lib.ListN.{length, get_or, get_or-eq_default}
 use lib.Seq.{ext_get_or, get_or-append-add}
 use Rattle.multi_cycle_list.specs.Nodes.{classes, entries, next, prev, whole_b, list_of, lists_of, read}
 use Rattle.state.specs.Seq.{each}
-use Rattle.state.specs.Result.{Bytes}
+use Rattle.state.specs.Outcome.{Bytes}
 use Rattle.multi_cycle_list.specs.Lists.{Lists, Valid, count, counts}
 use Rattle.multi_cycle_list.specs.Laid.{Arc, arcs, after, before, twos, laid_out, laid}
 use Rattle.multi_cycle_list.proofs.Lists.{In, Below, NoDup, count_same, count-other, count_in}

@@ -12,17 +12,17 @@ use lib.ListN.{length, get_or, set, length-set, get_or-replicate, length-replica
 use lib.Seq.{get_or-set_same, get_or-set_other}
 use lib.Dec.{eqb, ltb}
 use borrow.Author.Tests.{lt-ltb, le-ltb, ltb-true, ltb-false, eq-eqb, ne_eqb, eqb-true}
-use Rattle.std.specs.Prelude.{Option, Some, None}
+use Rattle.std.specs.Prelude.{Option, Some, None, reverse}
+use Rattle.std.proofs.lemmas.List.{length-reverse, reverse-append}
 use Rattle.std.proofs.lemmas.Option.{cond_some}
 use Rattle.state.proofs.Tests.{not-both, and_l, and_r, by_cond}
 use Rattle.multi_cycle_list.specs.Nodes.{classes, entries, next, prev, list_of}
 use Rattle.multi_cycle_list.specs.declared.link.Link.{Link}
 use Rattle.multi_cycle_list.specs.declared.link.Link.TheVariants.{Next, Prev}
-use Rattle.multi_cycle_list.specs.Inner.{opposite, link_at, linked, Trail, ended, comes, trail, trail_at, unmarked, marks_of, meets_at}
+use Rattle.multi_cycle_list.specs.Inner.{opposite, link_at, linked, Trail, ended, comes, trail, unmarked, marks_of, meets_at, Sizes}
 use Rattle.multi_cycle_list.proofs.Lists.{In, Below, pigeon, in_or-not, in_snoc_old, in_snoc_new, below_snoc}
 use Rattle.multi_cycle_list.proofs.Chain.{Joined, Chain, chain_nodup}
 use Rattle.multi_cycle_list.proofs.Trace.{chain-trace, map_back}
-use Rattle.multi_cycle_list.proofs.WholeTools.{Sizes}
 
 -- ---- a step of a trail
 
@@ -107,48 +107,36 @@ module _ {n c : ℕ} {s : List ℕ} {v : ℕ} {T : Trail} {i : ℕ} {link : Link
               is = sym (trail-step ∙ rw (sym q, ne_eqb x b e, le-ltb x c w)) ∙ h.is;
             }
 
+pub ruleset steps = (no_step, step_none, step_meets, step_class)
+
 -- ---- a chain from its other end
 
-turned : List ℕ → List ℕ
-turned [] = []
-turned (z ∷ zs) = turned zs ++ (z ∷ [])
+reverse_cons : (z : ℕ) (zs : List ℕ) → reverse (z ∷ zs) ≡ reverse zs ++ (z ∷ [])
+reverse_cons z zs = reverse-append (z ∷ []) zs
 
 chain_snoc : (C : ℕ) (nx pv : ℕ → ℕ) (ws : List ℕ) (a y b : ℕ) → Chain C nx pv a ws (C + y) → Joined nx pv (C + y) b → Chain C nx pv a (ws ++ (y ∷ [])) b
 chain_snoc C nx pv [] a y b p l = (p, l)
 chain_snoc C nx pv (w ∷ ws) a y b p l = (p.0, chain_snoc C nx pv ws (C + w) y b p.1 l)
 
-chain-turned : (C : ℕ) (nx pv : ℕ → ℕ) (zs : List ℕ) (a b : ℕ) → Chain C nx pv a zs b → Chain C pv nx b (turned zs) a
-unfolding turned
-chain-turned C nx pv [] a b p = (p.1, p.0)
-chain-turned C nx pv (z ∷ zs) a b p = chain_snoc C pv nx (turned zs) b z a (chain-turned C nx pv zs (C + z) b p.1) (p.0.1, p.0.0)
+chain-reverse : (C : ℕ) (nx pv : ℕ → ℕ) (zs : List ℕ) (a b : ℕ) → Chain C nx pv a zs b → Chain C pv nx b (reverse zs) a
+chain-reverse C nx pv [] a b p = (p.1, p.0)
+chain-reverse C nx pv (z ∷ zs) a b p = rw (reverse_cons z zs) (chain_snoc C pv nx (reverse zs) b z a (chain-reverse C nx pv zs (C + z) b p.1) (p.0.1, p.0.0))
 
-below-turned : (E : ℕ) (zs : List ℕ) → Below E zs → Below E (turned zs)
-unfolding turned
-below-turned E [] w = tt
-below-turned E (z ∷ zs) w = below_snoc E (turned zs) z w.0 (below-turned E zs w.1)
+below-reverse : (E : ℕ) (zs : List ℕ) → Below E zs → Below E (reverse zs)
+below-reverse E [] w = tt
+below-reverse E (z ∷ zs) w = rw (reverse_cons z zs) (below_snoc E (reverse zs) z w.0 (below-reverse E zs w.1))
 
-snoc_length : (ws : List ℕ) (y : ℕ) → length (ws ++ (y ∷ [])) ≡ suc (length ws)
-snoc_length [] y = refl
-snoc_length (w ∷ ws) y = ap suc (snoc_length ws y)
-
-length-turned : (zs : List ℕ) → length (turned zs) ≡ length zs
-unfolding turned
-length-turned [] = refl
-length-turned (z ∷ zs) = snoc_length (turned zs) z ∙ ap suc (length-turned zs)
-
-in_turned : (zs : List ℕ) (e : ℕ) → In e zs → In e (turned zs)
-unfolding turned
-in_turned [] e i = i
-in_turned (z ∷ zs) e i = ⊎_elim (λ q. in_snoc_new (turned zs) e z q) (λ j. in_snoc_old (turned zs) e z (in_turned zs e j)) i
+in_reverse : (zs : List ℕ) (e : ℕ) → In e zs → In e (reverse zs)
+in_reverse [] e i = i
+in_reverse (z ∷ zs) e i = rw (reverse_cons z zs) (⊎_elim (λ q. in_snoc_new (reverse zs) e z q) (λ j. in_snoc_old (reverse zs) e z (in_reverse zs e j)) i)
 
 snoc_in : (ws : List ℕ) (y e : ℕ) → In e (ws ++ (y ∷ [])) → In e ws ⊎ (e ≡ y)
 snoc_in [] y e i = ⊎_elim (λ q. inr q) (λ j. absurd j) i
 snoc_in (w ∷ ws) y e i = ⊎_elim (λ q. inl (inl q)) (λ j. ⊎_elim (λ k. inl (inr k)) (λ q. inr q) (snoc_in ws y e j)) i
 
-of_turned : (zs : List ℕ) (e : ℕ) → In e (turned zs) → In e zs
-unfolding turned
-of_turned [] e i = i
-of_turned (z ∷ zs) e i = ⊎_elim (λ j. inr (of_turned zs e j)) (λ q. inl q) (snoc_in (turned zs) z e i)
+of_reverse : (zs : List ℕ) (e : ℕ) → In e (reverse zs) → In e zs
+of_reverse [] e i = i
+of_reverse (z ∷ zs) e i = ⊎_elim (λ j. inr (of_reverse zs e j)) (λ q. inl q) (snoc_in (reverse zs) z e (rw (reverse_cons z zs) at i))
 
 -- ---- where the ends meet
 
@@ -164,18 +152,18 @@ closed-more : (C E : ℕ) (nx pv : ℕ → ℕ) (a b v x : ℕ) (l m : List ℕ)
     → Closed C E nx pv a b v l m
 closed-more C E nx pv a b v x l m fit hx la r =
     record {
-      zs = x ∷ turned r.zs;
-      chain = (la, chain-turned C pv nx r.zs b (C + x) r.chain);
-      inside = (hx, below-turned E r.zs r.inside);
+      zs = x ∷ reverse r.zs;
+      chain = (la, chain-reverse C pv nx r.zs b (C + x) r.chain);
+      inside = (hx, below-reverse E r.zs r.inside);
       marked = λ e i.
           ⊎_elim
           (λ q. ⊎_elim
           (λ j. r.marked e j)
           (λ o. r.kept e o ∙ ap (λ (y : ℕ). get_or (set l (C + x) v) (C + y) 0) q ∙ get_or-set_same l (C + x) v 0 (omega arith))
           (in_or-not e r.zs))
-          (λ j. r.marked e (of_turned r.zs e j))
+          (λ j. r.marked e (of_reverse r.zs e j))
           i;
-      kept = λ e o. r.kept e (λ j. o (inr (in_turned r.zs e j))) ∙ get_or-set_other l (C + x) (C + e) v 0 (λ q. o (inl (omega arith)));
+      kept = λ e o. r.kept e (λ j. o (inr (in_reverse r.zs e j))) ∙ get_or-set_other l (C + x) (C + e) v 0 (λ q. o (inl (omega arith)));
     }
 
 module _ (C E n : ℕ) (hn : n ≡ C + E) (s : List ℕ) where
@@ -212,13 +200,13 @@ module _ (C E n : ℕ) (hn : n ≡ C + E) (s : List ℕ) where
   met-chain (suc k) link a b v l [] hb w p h = rw (joined-linked s n a link b p hb, eq-eqb b b refl)
   met-chain (suc k) link a b v l (z ∷ zs) hb w p h =
       let j = joined-linked s n a link (C + z) p.0 (omega (arith, w.0)) in
-      let turned-chain = chain-turned C (leads s link) (leads s (opposite link)) zs (C + z) b p.1 in
+      let turned-chain = chain-reverse C (leads s link) (leads s (opposite link)) zs (C + z) b p.1 in
       elim (ℕ_discrete (C + z) b) [
         | yes q ↦ rw (j, eq-eqb (C + z) b q)
         | no q ↦ rw (j, ne_eqb (C + z) b q, le-ltb (C + z) C (omega arith))
-            (met-chain k (opposite link) b (C + z) v (set l (C + z) v) (turned zs) (omega (arith, w.0)) (below-turned E zs w.1)
-            (subst (λ (m : Link). Chain C (leads s (opposite link)) (leads s m) b (turned zs) (C + z)) (sym (opposite-twice link)) turned-chain)
-            (omega (arith, length-turned zs)))
+            (met-chain k (opposite link) b (C + z) v (set l (C + z) v) (reverse zs) (omega (arith, w.0)) (below-reverse E zs w.1)
+            (subst (λ (m : Link). Chain C (leads s (opposite link)) (leads s m) b (reverse zs) (C + z)) (sym (opposite-twice link)) turned-chain)
+            (omega (arith, length-reverse zs)))
       ]
 
 -- ---- the marks
@@ -290,16 +278,3 @@ module _ (s : List ℕ) (z : Sizes s) where
       let E = entries s in
       met-chain C E (C + E) refl s (2 * (C + E)) Next k k (k + 1) (marks_of s k) (list_of s k) (omega arith) w p
       (omega (arith, pigeon E (list_of s k) (chain_nodup C (next s) (prev s) (list_of s k) k k h p) w))
-
--- ---- what the code's calls tell
-
-module _ (s seen : List ℕ) (n c k : ℕ) (hn : n ≡ classes s + entries s) (hc : c ≡ classes s) (q : seen ≡ marks_of s k) where
-  trail-at : trail (2 * n) n c s Next k k (k + 1) seen ≡ trail_at s k (marks_of s k)
-  trail-at = rw (hn, hc, q)
-
-  pub meets-is : (trail (2 * n) n c s Next k k (k + 1) seen).met ≡ meets_at s k
-  meets-is = ap (λ (t : Trail). t.met) trail-at
-
-  pub marks_are : (trail (2 * n) n c s Next k k (k + 1) seen).seen ≡ marks_of s (k + 1)
-  unfolding marks_of
-  marks_are = ap (λ (t : Trail). t.seen) trail-at ∙ ap (marks_of s) (sym (add-one k))

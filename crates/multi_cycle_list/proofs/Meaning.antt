@@ -8,11 +8,11 @@ use native.Mathlib.Omega.{arith}
 use lib.ListN.{get_or, set}
 use borrow.Author.Tests.{lt-ltb, le-ltb}
 use Rattle.multi_cycle_list.specs.Nodes.{classes, entries, next, prev, whole_b, list_of, lists_of}
-use Rattle.multi_cycle_list.specs.Inner.{unbind_b, bind_b, as_entry}
+use Rattle.multi_cycle_list.specs.Inner.{unbind_b, bind_b, as_entry, Sizes}
 use Rattle.state.specs.Seq.{each}
 use Rattle.state.proofs.Seq.{each_same, map_each, get_d_each, set-each}
 use Rattle.multi_cycle_list.specs.Lists.{without, removed, first, last}
-use Rattle.multi_cycle_list.proofs.WholeTools.{Sizes, whole-sizes}
+use Rattle.multi_cycle_list.proofs.WholeTools.{whole-sizes}
 use Rattle.multi_cycle_list.proofs.Lists.{In, of_without}
 use Rattle.multi_cycle_list.proofs.Chain.{Joined, Chain, Binds}
 use Rattle.multi_cycle_list.proofs.Stores.{unbinds, binds, Same, unbind_same, bind_same}

@@ -9,12 +9,12 @@ use lib.ListN.{length, get_or}
 use lib.Dec.{eqb, ltb}
 use borrow.Author.Tests.{lt-ltb, ltb-true, eq-eqb, ne_eqb, eqb-true}
 use Rattle.multi_cycle_list.specs.Nodes.{classes, entries, next, prev, sizes_b, linked_at, closes, placed, whole_b, list_of}
-use Rattle.multi_cycle_list.specs.Inner.{Around, marks_of, meets_at, placed_by, Marked, Whole}
+use Rattle.multi_cycle_list.specs.Inner.{Around, marks_of, meets_at, placed_by, Marked, Whole, Sizes}
 use Rattle.multi_cycle_list.specs.Lists.{count}
 use Rattle.state.specs.Seq.{all_b, some_b}
 use Rattle.state.proofs.Seq.{all_true, all-at, some-true, some_at}
 use Rattle.state.proofs.Tests.{or_split, and_l, and_r, false_of, not-both, same_test}
-use Rattle.multi_cycle_list.proofs.WholeTools.{Sizes, LinkedAt, Parts, parts_of, sizes_of, sizes-last, linked_of, whole-sizes}
+use Rattle.multi_cycle_list.proofs.WholeTools.{LinkedAt, Parts, parts_of, sizes_of, sizes-last, linked_of, whole-sizes}
 use Rattle.multi_cycle_list.proofs.Lists.{In, count_in, in_count}
 use Rattle.multi_cycle_list.proofs.Chain.{one_class}
 use Rattle.multi_cycle_list.proofs.Trace.{chain_end, chain-trace, trace-chain, trace-inside, map_back}
@@ -99,14 +99,16 @@ complete s ls z r =
 
 -- ---- the test of the code
 
-pub not-whole-marked : (s seen : List ℕ) → whole_b s ≡ false → Whole s seen false
-not-whole-marked s seen h = record { test = sym h; marked = λ t. not-both (sym t) }
+pub not_whole_marked : (s seen : List ℕ) → whole_b s ≡ false → Whole s seen false
+not_whole_marked s seen h = record { test = sym h; marked = λ t. not-both (sym t) }
 
-pub whole-no-cycles : (s : List ℕ) → sizes_b s ≡ true → all_b (classes s) (meets_at s) ≡ false → whole_b s ≡ false
-whole-no-cycles s h q =
+pub whole_no_cycles : (s : List ℕ) → sizes_b s ≡ true → all_b (classes s) (meets_at s) ≡ false → whole_b s ≡ false
+whole_no_cycles s h q =
     false_of (whole_b s) (λ w.
     let r = sound s w in
     not-both (sym (all_true (classes s) (meets_at s) (λ c hc. meets_of s (sizes_of s h) c hc (r.chains c hc) (r.inside c hc))) ∙ q))
+
+pub ruleset not_whole = (not_whole_marked, whole_no_cycles)
 
 module _ (s : List ℕ) (z : Sizes s) (m : (c : ℕ) → c < classes s → meets_at s c ≡ true) where
   mark : ℕ → ℕ
@@ -168,9 +170,9 @@ module _ (s : List ℕ) (z : Sizes s) (m : (c : ℕ) → c < classes s → meets
             (by e he);
       }
 
-pub whole-marked : (s seen : List ℕ) (r : Bool) → sizes_b s ≡ true → all_b (classes s) (meets_at s) ≡ true → seen ≡ marks_of s (classes s)
+pub whole_marked : (s seen : List ℕ) (r : Bool) → sizes_b s ≡ true → all_b (classes s) (meets_at s) ≡ true → seen ≡ marks_of s (classes s)
     → r ≡ all_b (entries s) (λ k. placed_by s seen (classes s + k)) → Whole s seen r
-whole-marked s seen r h1 h2 q p =
+whole_marked s seen r h1 h2 q p =
     let C = classes s in
     let z = sizes_of s h1 in
     let m = all-at C (meets_at s) h2 in

@@ -3,19 +3,15 @@ use Prim.Native.Nat.{ℕ, ◌+◌, ◌*◌, ◌<◌, ◌≤◌}
 use mathlib.Core.Path.{◌≡◌}
 use mathlib.Core.Bool.{true, false, ◌&&◌}
 use mathlib.Core.List.{List}
+use native.Mathlib.Omega.{arith}
 use lib.ListN.{length}
 use lib.Dec.{eqb, ltb, leb}
 use borrow.Author.Tests.{ltb-true, leb-true, le-leb, eqb-true}
 use Rattle.state.specs.Lengths.{lists_allowed, lists_length}
 use Rattle.state.proofs.Tests.{and_l, and_r, and4}
 use Rattle.state.specs.Seq.{all_b}
+use Rattle.multi_cycle_list.specs.Inner.{Sizes}
 use Rattle.multi_cycle_list.specs.Nodes.{sizes_b, linked_at, classes, entries, next, prev, closes, placed, whole_b}
-
-pub record Sizes (s : List ℕ) : Type 0 where
-  pub some : 1 ≤ classes s
-  pub most : classes s ≤ 32
-  pub fewer : entries s ≤ 224
-  pub sized : length s ≡ 2 + 2 * (classes s + entries s)
 
 -- sizes that are allowed, as bounds
 pub allowed_of : (c e : ℕ) → lists_allowed c e ≡ true → (1 ≤ c) × (c ≤ 32) × (e ≤ 224)
@@ -51,9 +47,9 @@ linked_of s n i h =
     let q = and4 (ltb (next s i) n) (ltb (prev s i) n) (eqb (prev s (next s i)) i) (eqb (next s (prev s i)) i) h in
     record { next_in = ltb-true _ _ q.0; prev_in = ltb-true _ _ q.1; back = eqb-true _ _ q.2; forth = eqb-true _ _ q.3 }
 
-pub whole-no-sizes : (s : List ℕ) → sizes_b s ≡ false → whole_b s ≡ false
+pub whole_no_sizes : (s : List ℕ) → sizes_b s ≡ false → whole_b s ≡ false
 unfolding whole_b
-whole-no-sizes s h = rw h
+whole_no_sizes s h = rw h
 
 pub record Parts (s : List ℕ) : Type 0 where
   pub sizes : sizes_b s ≡ true
@@ -69,3 +65,9 @@ parts_of s h =
 
 pub whole-sizes : (s : List ℕ) → whole_b s ≡ true → Sizes s
 whole-sizes s h = sizes_of s (parts_of s h).sizes
+
+pub whole_length : (s : List ℕ) → whole_b s ≡ true → length s ≡ 2 + 2 * (classes s + entries s)
+whole_length s h = (whole-sizes s h).sized
+
+pub few_nodes : (s : List ℕ) → whole_b s ≡ true → classes s + entries s ≤ 256
+few_nodes s h = let z = whole-sizes s h in omega arith

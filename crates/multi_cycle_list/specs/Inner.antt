@@ -1,6 +1,6 @@
 -- What the inner functions store, as the code goes. No contract of a public call cites this.
-use Rattle.std.specs.Prelude.{ℕ, zero, suc, ◌+◌, ◌-◌, ◌*◌, ◌<◌, ◌≡◌, List, Bool, true, false, cond, ◌&&◌, ◌||◌, not, length, get_or, set, replicate, eqb, ltb, Option, Some, None}
-use Rattle.multi_cycle_list.specs.Lists.{count}
+use Rattle.std.specs.Prelude.{ℕ, zero, suc, ◌+◌, ◌-◌, ◌*◌, ◌<◌, ◌≤◌, ◌≡◌, List, Bool, true, false, cond, ◌&&◌, ◌||◌, not, length, get_or, set, replicate, eqb, ltb, Option, Some, None}
+use Rattle.multi_cycle_list.specs.Lists.{Lists, count, moved_front, moved_back}
 use Rattle.multi_cycle_list.specs.declared.link.Link.{Link}
 use Rattle.multi_cycle_list.specs.declared.link.Link.TheVariants.{Next, Prev}
 use Rattle.multi_cycle_list.specs.Nodes.{classes, entries, next, prev, list_of, whole_b}
@@ -35,15 +35,14 @@ link_b s a b = set (set s (3 + 2 * b) a) (2 + 2 * a) b
 abbrev pub unbind_b : List ℕ → ℕ → List ℕ
 unbind_b s i = link_b (link_b s i i) (prev s i) (next s i)
 
--- the node i, which stands alone, between the nodes a and b; after the node a; before the node b
+-- the node i, which stands alone, between the nodes a and b
 abbrev pub bind_b : List ℕ → ℕ → ℕ → ℕ → List ℕ
 bind_b s i a b = link_b (link_b s i b) a i
 
-abbrev pub after_b : List ℕ → ℕ → ℕ → List ℕ
-after_b s i a = bind_b s i a (next s a)
-
-abbrev pub before_b : List ℕ → ℕ → ℕ → List ℕ
-before_b s i b = bind_b s i (prev s b) b
+-- after the node k, which is along `Next`, or before it
+abbrev pub beside_b : List ℕ → ℕ → ℕ → Link → List ℕ
+beside_b s i k Next = bind_b s i k (next s k)
+beside_b s i k Prev = bind_b s i (prev s k) k
 
 -- the node i can be taken out, and then put in next to the node k
 pub record Movable (s : List ℕ) (i k : ℕ) : Type 0 where
@@ -60,7 +59,19 @@ alone_to s (suc k) = link_b (alone_to s k) k k
 abbrev pub as_entry : List ℕ → ℕ → Option ℕ
 as_entry s n = cond (ltb n (classes s)) None (Some (n - classes s))
 
+-- the entry e at the front of the class c, which is along `Next`, or at its back
+abbrev pub moved : Link → ℕ → ℕ → Lists → Lists
+moved Next = moved_front
+moved Prev = moved_back
+
 -- ---- the test of wholeness
+
+-- sizes that are allowed, and the length that they ask for
+pub record Sizes (s : List ℕ) : Type 0 where
+  pub some : 1 ≤ classes s
+  pub most : classes s ≤ 32
+  pub fewer : entries s ≤ 224
+  pub sized : length s ≡ 2 + 2 * (classes s + entries s)
 
 -- where the link of the node i leads; none where it leads out of the n nodes, or the opposite link there does not come back
 abbrev pub linked : List ℕ → ℕ → ℕ → Link → Option ℕ

@@ -1,7 +1,7 @@
 // `MultiCycleList`: nodes in cycles, each linked to the one after it and the one before.
 ghost use Rattle.std.specs.Prelude.{◌≡◌, ◌+◌, ◌*◌, ◌<◌, ◌≤◌, not, eqb, length};
-ghost use Rattle.multi_cycle_list.specs.Nodes.{next, prev};
-ghost use Rattle.multi_cycle_list.specs.Inner.{link_at, link_b, unbind_b, bind_b, after_b, before_b, alone_to, Fits, Around, Movable};
+ghost use Rattle.multi_cycle_list.specs.Nodes.{next};
+ghost use Rattle.multi_cycle_list.specs.Inner.{link_at, link_b, unbind_b, bind_b, beside_b, alone_to, Fits, Around, Movable};
 
 use crate::link::Link;
 
@@ -12,25 +12,11 @@ pub(crate) fn link_at(s: &[u8], node: usize, link: Link) -> usize
     usize::from(s[link.offset() + 2 * node])
 }
 
-pub(crate) fn next(s: &[u8], node: usize) -> usize
-    requires { 3 + 2 * node < length s.now }
-    ensures { result ≡ next s.now node }
-{
-    link_at(s, node, Link::Next)
-}
-
-pub(crate) fn prev(s: &[u8], node: usize) -> usize
-    requires { 3 + 2 * node < length s.now }
-    ensures { result ≡ prev s.now node }
-{
-    link_at(s, node, Link::Prev)
-}
-
 pub(crate) fn is_bound(s: &[u8], node: usize) -> bool
     requires { 3 + 2 * node < length s.now }
     ensures { result ≡ not (eqb (next s.now node) node) }
 {
-    next(s, node) != node
+    link_at(s, node, Link::Next) != node
 }
 
 // Links the node `a` to the node `b`, both ways.
@@ -57,8 +43,8 @@ pub(crate) fn unbind(s: &mut [u8], node: usize)
     requires { Around s.old node }
     ensures { s.new ≡ unbind_b s.old node }
 {
-    let next = next(s, node);
-    let prev = prev(s, node);
+    let next = link_at(s, node, Link::Next);
+    let prev = link_at(s, node, Link::Prev);
     link(s, node, node);
     link(s, prev, next);
 }
@@ -72,20 +58,15 @@ fn bind(s: &mut [u8], node: usize, prev: usize, next: usize)
     link(s, prev, node);
 }
 
-pub(crate) fn move_after(s: &mut [u8], node: usize, prev: usize)
-    requires { Movable s.old node prev }
-    ensures { s.new ≡ after_b (unbind_b s.old node) node prev }
+// The node leaves its place, and joins after the node `to`, which is along `Next`, or before it.
+pub(crate) fn move_beside(s: &mut [u8], node: usize, to: usize, side: Link)
+    requires { Movable s.old node to }
+    ensures { s.new ≡ beside_b (unbind_b s.old node) node to side }
 {
     unbind(s, node);
-    let next = next(s, prev);
-    bind(s, node, prev, next);
-}
-
-pub(crate) fn move_before(s: &mut [u8], node: usize, next: usize)
-    requires { Movable s.old node next }
-    ensures { s.new ≡ before_b (unbind_b s.old node) node next }
-{
-    unbind(s, node);
-    let prev = prev(s, next);
-    bind(s, node, prev, next);
+    let far = link_at(s, to, side);
+    match side {
+        Link::Next => bind(s, node, to, far),
+        Link::Prev => bind(s, node, far, to),
+    }
 }

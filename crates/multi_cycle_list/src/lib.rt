@@ -3,5 +3,5 @@
 
 mod cycle;
 pub mod inner;
-mod link;
+pub mod link;
 pub mod whole;

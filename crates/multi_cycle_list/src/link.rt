@@ -3,15 +3,15 @@ ghost use Rattle.std.specs.Prelude.{◌≡◌};
 ghost use Rattle.multi_cycle_list.specs.Inner.{offset, opposite};
 
 // To the node after it, and to the one before.
-#[derive(Clone, Copy, PartialEq, Eq)]
-pub(crate) enum Link {
+#[derive(Clone, Copy, Debug, PartialEq, Eq)]
+pub enum Link {
     Next,
     Prev,
 }
 
 impl Link {
     // Where node 0 has it in the bytes; each node has two bytes.
-    pub(crate) fn offset(self) -> usize
+    pub fn offset(self) -> usize
         ensures { result ≡ offset self }
     {
         match self {

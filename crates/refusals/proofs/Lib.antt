@@ -1,5 +1,4 @@
 pub mod Ends
-pub mod Outcomes
 pub mod Queues
 pub mod Reception
 pub mod Transmission

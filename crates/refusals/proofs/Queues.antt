@@ -20,8 +20,7 @@ use Rattle.gomxeli.specs.Answers.{packed, number, done, flag, option_first, opti
 use Rattle.gomxeli.specs.Calls.{McqFront, McqBack, McqIsEmpty, McqIsFront, McqIsBack, McqRemove, McqOpen, McqMoveFront, McqMoveBack, IqFront, IqBack, IqContains, IqGet, IqRemove, IqEnqueueFront, IqEnqueueBack, IqDequeue, IqOpen, IqGetMut, IqInsert}
 use Rattle.gomxeli.proofs.Fields.{number_of}
 use Rattle.refusals.specs.Refusals.{among, Refusal, refusals}
-use Rattle.refusals.proofs.Ends.{zero_number, is_refusal}
-use Rattle.refusals.proofs.Outcomes.{Ends, refuses, answers, either, alone, on-bytes}
+use Rattle.refusals.proofs.Ends.{Ends, refuses, answers, either, alone, on-bytes, zero_number, is_refusal}
 
 -- ---- the numbers of answers
 

@@ -20,8 +20,7 @@ use Rattle.gomxeli.specs.Answers.{number, done, flag, priority_answer, option_fi
 use Rattle.gomxeli.proofs.Fields.{refusal_of}
 use Rattle.refusals.specs.Stateless.{ImgOpen, ImgAddSubject, ImgRemoveSubjectRange, ImgHasSubject, LeafCall, leaf, SubjectIdNew, SubjectIdFromU16Truncating, ServiceIdNew, ServiceIdFromU16Truncating, NodeIdNew, NodeIdFromU8Truncating, TransferIdNew, TransferIdFromU8Truncating, TransferIdNext, PriorityTryFromU8, PriorityFromU8Truncating, PriorityNext, PriorityPrev, PrioritySetNewEq, PrioritySetNewGe, PrioritySetNewLe, PrioritySetNewGt, PrioritySetNewLt, PrioritySetFirst, PrioritySetLast, PrioritySetIsEmpty, PrioritySetComplement, PrioritySetNot, PrioritySetIterNext, TailByteSot, TailByteEot, TailByteToggle, TailByteTransferId, PrioritySetContains, PrioritySetInsert, PrioritySetRemove, PrioritySetBitand, PrioritySetBitor, TailByteNew, IsEotFrame}
 use Rattle.refusals.specs.Refusals.{image_refusals}
-use Rattle.refusals.proofs.Ends.{zero_number, is_refusal}
-use Rattle.refusals.proofs.Outcomes.{Ends, answers, either, alone}
+use Rattle.refusals.proofs.Ends.{Ends, answers, either, alone, zero_number, is_refusal}
 
 -- ---- the filter image
 

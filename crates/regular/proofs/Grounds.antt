@@ -4,17 +4,17 @@ use mathlib.Core.Path.{◌≡◌, refl, sym, ap, ◌∙◌}
 use mathlib.Core.Logic.{◌≢◌}
 use mathlib.Core.List.{List}
 use Rattle.std.specs.Prelude.{Option, None, Some}
-use mathlib.Core.Bool.{true, false, ◌&&◌}
+use mathlib.Core.Bool.{Bool, true, false, ◌&&◌}
 use native.Mathlib.Omega.{arith}
 use native.Mathlib.Decide.{ℕ_discrete}
 use lib.Dec.{eqb, leb, ltb}
 use lib.ListN.{length, get_or}
 use borrow.Author.Tests.{ltb-true, leb-true, eqb-true, le-leb, eq-eqb, ne_eqb}
 use Rattle.state.specs.Seq.{all_b, each}
-use Rattle.state.proofs.Tests.{and_r, and4, not-both, false_of, same_test, by_cond}
+use Rattle.state.proofs.Tests.{and_l, and_r, and4, not-both, false_of, same_test, by_cond}
 use Rattle.multi_cycle_list.specs.Lists as lists
 use Rattle.multi_cycle_list.specs.Nodes as nodes
-use Rattle.multi_cycle_list.specs.Inner.{Marked}
+use Rattle.multi_cycle_list.specs.Inner.{Marked, Whole}
 use Rattle.multi_cycle_list.proofs.Laid.{read-valid}
 use Rattle.entry_tree.specs.Places as tree
 use Rattle.regular.specs.Registry as registry
@@ -56,6 +56,12 @@ active-tree s l h = record { len = (split s l).long-a; few = (sizes_of s h).acti
 pub inactive-tree : (s : List ℕ) → length s ≡ 1036 → sizes_b s ≡ true → IsTree (inactive_part s)
 inactive-tree s l h = record { len = (split s l).long-i; few = (sizes_of s h).inactive }
 
+pub active_few : (s : List ℕ) → sizes_b s ≡ true → tree.size (active_part s) ≤ 128
+active_few s h = (sizes_of s h).active
+
+-- what is asked of the parts that the tests go over
+pub ruleset grounds = (active-tree, inactive-tree, active_few)
+
 -- ---- the queue
 
 -- two classes: their counts
@@ -70,6 +76,10 @@ pub record Ground (s seen : List ℕ) : Type 0 where
   pub queue : nodes.whole_b (queue_part s) ≡ true
   pub marked : Marked (queue_part s) seen
   pub room : length seen ≡ 256
+
+-- what the queue's test, with the answer true, leaves
+pub ground_of : (s seen : List ℕ) (r : Bool) → length s ≡ 1036 → sizes_b s ≡ true → Whole (queue_part s) seen r → r ≡ true → length seen ≡ 256 → Ground s seen
+ground_of s seen r l z w q n = record { long = l; sizes = z; queue = sym w.test ∙ q; marked = w.marked q; room = n }
 
 module _ (s seen : List ℕ) (g : Ground s seen) where
   Z : Sizes s
@@ -121,14 +131,8 @@ module _ (s seen : List ℕ) (g : Ground s seen) where
   pub no-active : pairs_b active seen 0 (read s).active ≡ false → whole_b s ≡ false
   no-active f = false_of (whole_b s) (λ h. not-both (sym (tested h).active ∙ f))
 
-  pub no-inactive : pairs_b inactive (seen_after 3 seen (read s).active) 0 (read s).inactive ≡ false → whole_b s ≡ false
-  no-inactive f = false_of (whole_b s) (λ h. not-both (sym (tested h).inactive ∙ f))
-
-  pub no-all-met : all_b 128 (met_b (seen_after 4 (seen_after 3 seen (read s).active) (read s).inactive)) ≡ false → whole_b s ≡ false
-  no-all-met f = false_of (whole_b s) (λ h. not-both (sym (tested h).all-met ∙ f))
-
-  pub no_last : last_b (read s) ≡ false → whole_b s ≡ false
-  no_last f = false_of (whole_b s) (λ h. not-both (sym (tested h).last ∙ f))
+  pub no-inactive : (two : List ℕ) → two ≡ seen_after 3 seen (read s).active → pairs_b inactive two 0 (read s).inactive ≡ false → whole_b s ≡ false
+  no-inactive two q f = false_of (whole_b s) (λ h. not-both (sym (tested h).inactive ∙ ap (λ (z : List ℕ). pairs_b inactive z 0 (read s).inactive) (sym q) ∙ f))
 
   points : (marks : List ℕ) (o : Option ℕ) → pointed_b marks o ≡ true → (e : ℕ) → o ≡ Some e → mark_of marks e ≡ 3
   points marks None h e q = absurd (let z : ◌≡◌ {A = ℕ} 0 1 = cc in omega arith)
@@ -138,14 +142,24 @@ module _ (s seen : List ℕ) (g : Ground s seen) where
   of_points ms None f = refl
   of_points ms (Some w) f = eq-eqb (mark_of ms w) 3 (f w refl)
 
-  pub whole-last : pairs_b active seen 0 (read s).active ≡ true → pairs_b inactive (seen_after 3 seen (read s).active) 0 (read s).inactive ≡ true
-      → all_b 128 (met_b (seen_after 4 (seen_after 3 seen (read s).active) (read s).inactive)) ≡ true → last_b (read s) ≡ true
-      → whole_b s ≡ pointed_b (seen_after 4 (seen_after 3 seen (read s).active) (read s).inactive) (read s).walk
-  whole-last a i t l =
-      let two = seen_after 4 (seen_after 3 seen (read s).active) (read s).inactive in
-      same_test (whole_b s) (pointed_b two (read s).walk)
-      (λ h. of_points two (read s).walk (tested h).walk)
-      (λ h. whole_by (record { active = a; inactive = i; all-met = t; last = l; walk = points two (read s).walk h }))
+  -- the last three tests, on the marks `two` and `three` after each tree
+  pub whole_last : pairs_b active seen 0 (read s).active ≡ true → (two : List ℕ) → two ≡ seen_after 3 seen (read s).active
+      → pairs_b inactive two 0 (read s).inactive ≡ true → (three : List ℕ) → three ≡ seen_after 4 two (read s).inactive
+      → whole_b s ≡ (all_b 128 (met_b three) && (last_b (read s) && pointed_b three (read s).walk))
+  whole_last a two q2 i three q3 =
+      let w = (read s).walk in
+      let at : three ≡ seen_after 4 (seen_after 3 seen (read s).active) (read s).inactive = q3 ∙ ap (λ (z : List ℕ). seen_after 4 z (read s).inactive) q2 in
+      let t = all_b 128 (met_b three) in
+      let l = last_b (read s) in
+      same_test (whole_b s) (t && (l && pointed_b three w))
+      (λ h. rw (at, (tested h).all-met, (tested h).last) (of_points _ w (tested h).walk))
+      (λ h. whole_by (record {
+        active = a;
+        inactive = ap (λ (z : List ℕ). pairs_b inactive z 0 (read s).inactive) (sym q2) ∙ i;
+        all-met = ap (λ (z : List ℕ). all_b 128 (met_b z)) (sym at) ∙ and_l t (l && pointed_b three w) h;
+        last = and_l l (pointed_b three w) (and_r t (l && pointed_b three w) h);
+        walk = λ e q. ap (λ (z : List ℕ). mark_of z e) (sym at) ∙ points three w (and_r l (pointed_b three w) (and_r t (l && pointed_b three w) h)) e q;
+      }))
 
 -- ---- the first tests
 

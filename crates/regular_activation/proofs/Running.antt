@@ -3,6 +3,7 @@ use Prim.Native.Nat.{ℕ, zero, suc, ◌-◌, ◌<◌, ◌≤◌}
 use mathlib.Core.Path.{◌≡◌, refl, sym, ap, ◌∙◌, subst}
 use mathlib.Core.List.{List, [], ◌∷◌}
 use mathlib.Core.Bool.{Bool, true, false, cond}
+use Rattle.std.specs.Prelude.{Some, Ok}
 use native.Mathlib.Omega.{arith}
 use native.Mathlib.Decide.{ℕ_discrete, dec_lt}
 use lib.ListN.{length, get_or, set, replicate, length-set, length-replicate, get_or-replicate}
@@ -17,8 +18,8 @@ use Rattle.entry_tree.proofs.Changes.{order-at}
 use Rattle.entry_tree.proofs.Count.{any-true, true-any}
 use Rattle.entry_merge.proofs.Merging.{merged-count, merged-joins, kept-all, kept-subject, marked_more, filled-order, unfilled, filled-joins}
 use Rattle.regular.specs.Registry.{Registry}
-use Rattle.regular.specs.Steps.{Step, inner_step, activates}
-use Rattle.regular.specs.declared.Popped.TheVariants as pops
+use Rattle.regular.specs.Steps.{Step, call_again, inner_step, activates}
+use Rattle.regular.specs.declared.FilterUpdate.TheVariants.{AddSubject}
 use Rattle.regular_valid.proofs.Facts.{Facts}
 use Rattle.regular_valid.proofs.Valid.{Whole, inner_whole}
 use Rattle.regular_valid.proofs.Poll.{step-next}
@@ -29,7 +30,7 @@ use Rattle.regular_activation.specs.Inner.{again, Again}
 pub again-none : (m : Registry) → Again m m
 again-none m = record { steps = 0; last = refl; says = λ i h. absurd (omega arith) }
 
-pub again-more : (m n : Registry) → Again m n → (inner_step n).says ≡ pops.CallAgain → Again m (inner_step n).then
+pub again-more : (m n : Registry) → Again m n → (inner_step n).says ≡ call_again → Again m (inner_step n).then
 again-more m n a q = record {
   steps = suc a.steps;
   last = ap (λ (r : Registry). (inner_step r).then) a.last;
@@ -107,8 +108,8 @@ module _ (m₀ m : Registry) (slots gone : List ℕ) (r : Running m₀ m slots g
         true-any (on_subject x) m.active
         (omega (arith, ap (count (on_subject x)) r.active, merged-count (on_subject x) m₀.active (filled slots I), any-true (on_subject x) m₀.active known))
 
-    says-again : (inner_step m).says ≡ pops.CallAgain
-    says-again = ap (λ (s : Step). s.says) step_is ∙ ap (λ (b : Bool). cond b pops.CallAgain (pops.AddSubject x)) still_known
+    says-again : (inner_step m).says ≡ call_again
+    says-again = ap (λ (s : Step). s.says) step_is ∙ ap (λ (b : Bool). cond b call_again (Some (Ok (AddSubject x)))) still_known
 
     below : (i : ℕ) → i < j → (get_or I i none).subject ≤ x
     below i h = omega (arith, order-at 0 I order i j (omega arith) inside)

@@ -2,14 +2,14 @@
 use Prim.Native.Nat.{ℕ, zero, suc, ◌+◌, ◌-◌, ◌/◌, ◌%◌, ◌<◌, ◌≤◌}
 use mathlib.Core.Path.{◌≡◌, refl, sym, ap, ◌∙◌, subst}
 use mathlib.Core.List.{List, [], ◌∷◌}
-use mathlib.Core.Bool.{true, false}
+use mathlib.Core.Bool.{true}
 use native.Mathlib.Omega.{arith}
 use lib.ListN.{length, get_or, set, drop, replicate}
 use borrow.Rule.Slice.PartMut.{put_mid}
-use Rattle.state.specs.Result.{Bytes}
+use Rattle.state.specs.Outcome.{Bytes}
 use Rattle.multi_cycle_list.specs.Lists as lists
 use Rattle.multi_cycle_list.specs.Lists.{Lists, first, row, without_entry}
-use Rattle.std.specs.Prelude.{Option, Some}
+use Rattle.std.specs.Prelude.{Option, Some, None}
 use Rattle.multi_cycle_list.specs.Nodes as nodes
 use Rattle.multi_cycle_list.specs.Laid as lists_laid
 use Rattle.multi_cycle_list.proofs.Lists.{without-none, in_count, without-same, count_same}
@@ -32,6 +32,7 @@ use Rattle.regular_valid.proofs.Facts.{at_most}
 use Rattle.regular_valid.proofs.Valid.{Whole, inner_whole}
 use Rattle.regular_valid.proofs.Reading.{parts, read-facts, read_whole, queue-valid}
 use Rattle.regular_valid.proofs.Round.{tail_of, split-long, laid_from, queue-read, queue-self, low-self, high-self, flag-self, walk-self}
+use Rattle.regular_change.specs.Inner.{CleanedUp}
 use Rattle.regular_activation.specs.Inner.{again, Again, Activated, StartsAt, Starts, Free, Consists, Taken}
 use Rattle.regular_change.proofs.Looks.{known}
 use Rattle.regular_change.proofs.Acts.{Queue, first_some}
@@ -78,14 +79,14 @@ module _ (b : List ℕ) (y : Bytes b) (h : whole_b b ≡ true) where
   few : length (read b).inactive ≤ 128
   few = omega (arith, at_most (read b) (read-facts b h))
 
-  pub taking_none : (read b).clean_up ≡ [] → (read b).last_gap ≡ false → (slots gone : List ℕ) → slots ≡ replicate 128 255 → gone ≡ replicate 256 0 → (front : Option ℕ) → front ≡ first (row (nodes.read (queue_part b)) 1)
+  pub taking_none : CleanedUp (read b) → (slots gone : List ℕ) → slots ≡ replicate 128 255 → gone ≡ replicate 256 0 → (front : Option ℕ) → front ≡ first (row (nodes.read (queue_part b)) 1)
       → Taking b b slots gone front
-  taking_none c f slots gone qs qg front q =
+  taking_none c slots gone qs qg front q =
       subst (λ (z : List ℕ). Taking b b z gone front) (sym qs)
       (subst (λ (z : List ℕ). Taking b b (replicate 128 255) z front) (sym qg)
       (record {
         meaning = read b;
-        run = running_none (read b) (read_whole b y h) c f few;
+        run = running_none (read b) (read_whole b y h) c.marks c.flag few;
         parts = consists b b (active_part b) (inactive_part b) (lists_laid.laid (queue_of (read b)))
             (subst (λ (z : List ℕ). Joined b (active_part b) (inactive_part b) z (tail_of b)) (queue-self b y h) (split-long b (parts b h).bytes));
         next = q ∙ ap (λ (z : Lists). first (row z 1)) (queue-read b h);
@@ -115,8 +116,8 @@ module _ (b : List ℕ) (y : Bytes b) (h : whole_b b ≡ true) where
     pub tree_then : IsTree (inactive_part s)
     tree_then = subst IsTree (sym k.parts.inactive) (known b h).inactive
 
-    module _ (e : ℕ) (qe : front ≡ Some e) (start : List ℕ) (st : Starts b start) (j : ℕ) (small : j < 128)
-        (fits : (get_or start e 0 < 128) × Free (inactive_part s) slots j (subject_at (inactive_part s) (get_or start e 0)))
+    module _ (e : ℕ) (qe : front ≡ Some e) (start : List (Option ℕ)) (st : Starts b start) (g : ℕ) (qg : get_or start e None ≡ Some g) (j : ℕ)
+        (fits : Free (inactive_part s) slots j (subject_at (inactive_part s) g))
       where
         abbrev I : List ℕ
         I = inactive_part b
@@ -127,11 +128,14 @@ module _ (b : List ℕ) (y : Bytes b) (h : whole_b b ≡ true) where
         front-is : m.activation ≡ e ∷ q
         front-is = first_some m.activation e (sym k.next ∙ qe)
 
-        at : StartsAt b e (get_or start e 0)
-        at = st.at e (omega (arith, front-small e qe)) fits.0
+        at : StartsAt b e g
+        at = st e g qg
 
-        free : Free I slots j (subject_at I (get_or start e 0))
-        free = subst (λ (t : List ℕ). Free t slots j (subject_at t (get_or start e 0))) k.parts.inactive fits.1
+        free : Free I slots j (subject_at I g)
+        free = subst (λ (t : List ℕ). Free t slots j (subject_at t g)) k.parts.inactive fits
+
+        small : j < 128
+        small = omega (arith, free.inside, (known b h).inactive.few)
 
         subject_of : (i : ℕ) → i < tree.size I → (get_or (read b).inactive i none).subject ≡ subject_at I i
         subject_of i l = ap (λ (p : Pair). p.subject) (read_at I i l)
@@ -142,14 +146,14 @@ module _ (b : List ℕ) (y : Bytes b) (h : whole_b b ≡ true) where
         inside : j < length (read b).inactive
         inside = omega (arith, read_length I, free.inside)
 
-        next-filled : 0 < j → (get_or (read b).inactive (j - 1) none).subject ≡ subject_at I (get_or start e 0) → get_or slots (j - 1) 0 < 128
+        next-filled : 0 < j → (get_or (read b).inactive (j - 1) none).subject ≡ subject_at I g → get_or slots (j - 1) 0 < 128
         next-filled l z = free.next l (sym (subject_of (j - 1) (omega (arith, free.inside))) ∙ z)
 
         run-then : Running (read b) m' (set slots j e) (set gone e 1)
-        run-then = running_more (read b) m slots gone k.run (read-facts b h) (known b h).conditions.order-i e q front-is (subject_at I (get_or start e 0)) at.subject at.active j inside small free.empty (subject_of j free.inside ∙ free.on) next-filled
+        run-then = running_more (read b) m slots gone k.run (read-facts b h) (known b h).conditions.order-i e q front-is (subject_at I g) at.subject at.active j inside small free.empty (subject_of j free.inside ∙ free.on) next-filled
 
         activation-then : m'.activation ≡ q
-        activation-then = running_queue (read b) m slots gone k.run (read-facts b h) (known b h).conditions.order-i e q front-is (subject_at I (get_or start e 0)) at.subject at.active j inside small free.empty (subject_of j free.inside ∙ free.on) next-filled
+        activation-then = running_queue (read b) m slots gone k.run (read-facts b h) (known b h).conditions.order-i e q front-is (subject_at I g) at.subject at.active j inside small free.empty (subject_of j free.inside ∙ free.on) next-filled
 
         front-count : lists.count e m.activation ≡ suc (lists.count e q)
         front-count = ap (lists.count e) front-is ∙ count_same e e q refl
@@ -205,6 +209,10 @@ trees_then s A I l la li =
 
 pub inactive-then : (s A : List ℕ) → length s ≡ 1036 → length A ≡ 385 → inactive_part (put_mid 0 385 s A) ≡ inactive_part s
 inactive-then s A l la = inactive-is (put_mid 0 385 s A) A (inactive_part s) (queue_part s) (tail_of s) (put-active s (active_part s) (inactive_part s) (queue_part s) (tail_of s) (split-long s l) A la)
+
+-- the inactive tree is as it was when the active one has become A
+pub tree_after : (s A : List ℕ) → length s ≡ 1036 → tree.size (inactive_part s) ≤ 128 → length A ≡ length (active_part s) → IsTree (inactive_part (put_mid 0 385 s A))
+tree_after s A l few la = subst IsTree (sym (inactive-then s A l (la ∙ part-long-a s l))) (record { len = part-long-i s l; few = few })
 
 -- the copies a and i are the trees; A is what the merge leaves, B what the removal does
 pub changed : (s : List ℕ) → length s ≡ 1036 → (slots gone a : List ℕ) → a ≡ active_part s → (i : List ℕ) → i ≡ inactive_part s

@@ -1,14 +1,13 @@
 -- Many inner steps at once: what they make of a registry and of its bytes, and what is noted on the way. No contract of a public call cites
 -- this.
-use Rattle.std.specs.Prelude.{ℕ, zero, suc, ◌+◌, ◌-◌, ◌<◌, ◌≤◌, ◌≡◌, List, true, length, get_or}
+use Rattle.std.specs.Prelude.{ℕ, zero, suc, ◌+◌, ◌-◌, ◌<◌, ◌≤◌, ◌≡◌, List, true, length, get_or, Option, Some, None, MatchOption}
 use Rattle.multi_cycle_list.specs.Laid as lists
 use Rattle.entry_tree.specs.Pairs.{has_subject, place_of}
 use Rattle.entry_tree.specs.Places.{size, subject_at}
 use Rattle.entry_merge.specs.Inner.{kept, stays, filled, merged}
 use Rattle.regular.specs.Registry.{Registry}
 use Rattle.regular.specs.Bytes.{active_part, inactive_part, queue_part, queue_of, read, laid}
-use Rattle.regular.specs.Steps.{inner_step}
-use Rattle.regular.specs.declared.Popped.TheVariants as pops
+use Rattle.regular.specs.Steps.{call_again, inner_step}
 
 -- the registry after k inner steps
 abbrev pub again : ℕ → Registry → Registry
@@ -19,7 +18,7 @@ again (suc k) m = (inner_step (again k m)).then
 pub record Again (m n : Registry) : Type 0 where
   pub steps : ℕ
   pub last : n ≡ again steps m
-  pub says : (i : ℕ) → i < steps → (inner_step (again i m)).says ≡ pops.CallAgain
+  pub says : (i : ℕ) → i < steps → (inner_step (again i m)).says ≡ call_again
 
 -- t is what such steps leave of the bytes b
 pub record Activated (b t : List ℕ) : Type 0 where
@@ -33,10 +32,14 @@ pub record StartsAt (s : List ℕ) (e g : ℕ) : Type 0 where
   pub subject : (place_of e (read s).inactive).subject ≡ subject_at (inactive_part s) g
   pub active : has_subject (subject_at (inactive_part s) g) (read s).active ≡ true
 
--- so for each entry that `start` has such a place for; it has a byte from 128 on for the others
-pub record Starts (s start : List ℕ) : Type 0 where
-  pub long : length start ≡ 256
-  pub at : (e : ℕ) → e < 256 → get_or start e 0 < 128 → StartsAt s e (get_or start e 0)
+-- so for each entry that `start` has such a place for
+abbrev pub Starts : List ℕ → List (Option ℕ) → Type 0
+Starts s start = (e g : ℕ) → get_or start e None ≡ Some g → StartsAt s e g
+
+-- o is the first place from `from` on of the tree t that is not below the subject x
+abbrev pub IsNotBelow : List ℕ → ℕ → ℕ → Option ℕ → Type 0
+IsNotBelow t from x o = MatchOption o ((k : ℕ) → from ≤ k → k < size t → subject_at t k < x)
+    (λ place. (from ≤ place) × (place < size t) × (x ≤ subject_at t place) × ((k : ℕ) → from ≤ k → k < place → subject_at t k < x))
 
 -- the place j of the tree t is on the subject x, and is the next there that no entry fills
 pub record Free (t slots : List ℕ) (j x : ℕ) : Type 0 where

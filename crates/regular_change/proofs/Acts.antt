@@ -3,7 +3,7 @@ use Prim.Native.Nat.{ℕ, suc, ◌+◌, ◌-◌, ◌/◌, ◌%◌, ◌<◌, ◌�
 use mathlib.Core.Path.{◌≡◌, refl, sym, ap, ◌∙◌, subst}
 use mathlib.Core.Logic.{◌≢◌}
 use mathlib.Core.List.{List, [], ◌∷◌, ◌++◌}
-use Rattle.std.specs.Prelude.{Option, None, Some, position}
+use Rattle.std.specs.Prelude.{Option, None, Some, Ok, position}
 use mathlib.Core.Bool.{Bool, true, false, not, cond, ◌||◌}
 use native.Mathlib.Omega.{arith}
 use native.Mathlib.Decide.{ℕ_discrete}
@@ -13,7 +13,7 @@ use lib.Seq.{set-get_or, get_or-take, get_or-drop}
 use borrow.Author.Tests.{not-true, ltb-true, ltb-false, lt-ltb, eq-eqb, ne_eqb}
 use borrow.Rule.Slice.PartMut.{put_mid}
 use Rattle.state.specs.Seq.{to_nat}
-use Rattle.state.specs.Result.{Bytes}
+use Rattle.state.specs.Outcome.{Bytes}
 use Rattle.state.proofs.Filled.{zero-bytes}
 use Rattle.state.proofs.Tests.{by_cond, and_r}
 use Rattle.multi_cycle_list.specs.Lists as lists
@@ -37,7 +37,7 @@ use Rattle.entry_tree.proofs.Walking.{walk-past, walk-stays, past-here, past-oth
 use Rattle.entry_tree.proofs.Once.{empty_tree}
 use Rattle.regular.specs.Registry.{Registry, fresh, queued}
 use Rattle.regular.specs.Bytes.{active_part, inactive_part, queue_part, read, whole_b, flag_over, queue_of, laid}
-use Rattle.regular.specs.Steps.{waits, joins, leaves_inactive, leaves, Gaps, gaps, head_gaps, is_head, new_mark, goes_on, with_clean_up, Step, inner_step, activates, becomes_active}
+use Rattle.regular.specs.Steps.{waits, joins, leaves_inactive, leaves, Gaps, gaps, head_gaps, is_head, new_mark, goes_on, with_clean_up, Step, call_again, inner_step, activates, becomes_active}
 use Rattle.regular.proofs.Parts.{Joined, put-active, put-inactive, put-queue, set-tail, tail_at, active-is, queue-is}
 use Rattle.regular.proofs.Grounds.{sizes_of}
 use Rattle.regular_valid.proofs.Facts.{Facts, at_most}
@@ -46,8 +46,8 @@ use Rattle.regular_valid.proofs.Places.{mark-range}
 use Rattle.regular_valid.proofs.Poll.{step-front, step-last, step-next}
 use Rattle.regular_valid.proofs.Reading.{parts, read-facts}
 use Rattle.regular_valid.proofs.Round.{tail_of, tail_laid, split-long, split-whole, laid-joined, laid_from, queue-read, active-self, inactive-self, queue-self, low-self, high-self, flag-self, walk-self}
-use Rattle.regular_change.specs.Inner.{from_at, gap_before, gap_of, more, with_slots, with_flag}
-use Rattle.regular.specs.declared.Popped.TheVariants as pops
+use Rattle.regular_change.specs.Inner.{CleanedUp, from_at, gap_before, gap_of, more, with_slots, with_flag}
+use Rattle.regular.specs.declared.FilterUpdate.TheVariants.{AddSubject, RemoveSubjectRange}
 use Rattle.regular_change.proofs.Looks.{place-from-at}
 use Rattle.regular_change.specs.declared.look.Gap.{Gap}
 use Rattle.regular_change.specs.declared.look.Gap.TheVariants.{Same, Withdrawn, Marked, Last}
@@ -270,12 +270,11 @@ module _ (b : List ℕ) (y : Bytes b) (h : whole_b b ≡ true) where
     pub room-inactive : tree.size I < 128
     room-inactive = omega (arith, read_length I, room m.inactive (λ f. omega (arith, F.once f)) (λ f i. omega (arith, F.entries f (omega arith))) zi)
 
-    pub joined : (x : ℕ) → put_mid 0 385 b (tree.laid (inserted (pair e x) (tree.read A)) A) ≡ laid (joins e x m) b
-    joined x =
-        let p = tree.laid (inserted (pair e x) (tree.read A)) A in
+    pub joins_then : (x : ℕ) (p : List ℕ) → p ≡ tree.laid (inserted (pair e x) (tree.read A)) A → put_mid 0 385 b p ≡ laid (joins e x m) b
+    joins_then x p a =
         laid_from (joins e x m) b
-        (put-active b A I Q T J p (trees.length-laid A long-active (inserted (pair e x) m.active) (omega (arith, inserted-length (pair e x) m.active, read_length A, room-active))))
-        refl (inactive-self b y h) (queue-self b y h) (low-self b y h) (high-self b y h) (flag-self b y h) (walk-self b y h)
+        (put-active b A I Q T J p (ap length a ∙ trees.length-laid A long-active (inserted (pair e x) m.active) (omega (arith, inserted-length (pair e x) m.active, read_length A, room-active))))
+        a (inactive-self b y h) (queue-self b y h) (low-self b y h) (high-self b y h) (flag-self b y h) (walk-self b y h)
 
     -- the queue is as it was when the entry has joined the inactive ones
     pub whole-waits : (x : ℕ) (p : List ℕ) → p ≡ tree.laid (inserted (pair e x) (tree.read I)) I → Queue (queue_part (put_mid 385 385 b p))
@@ -290,7 +289,7 @@ module _ (b : List ℕ) (y : Bytes b) (h : whole_b b ≡ true) where
         ∙ ap (λ (c : List ℕ). queues.lists 128 (c ∷ ((lists.without e m.activation ++ (e ∷ [])) ∷ []))) (gone e m.clean_up (omega (arith, F.marked e, za)))
         ∙ ap (λ (a : List ℕ). queues.lists 128 (m.clean_up ∷ ((a ++ (e ∷ [])) ∷ []))) (gone e m.activation (omega (arith, F.waits e, zi)))
 
-    pub waiting : (x n : ℕ) → let s1 = put_mid 385 385 b (tree.laid (inserted (pair e x) (tree.read I)) I) in
+    waiting : (x n : ℕ) → let s1 = put_mid 385 385 b (tree.laid (inserted (pair e x) (tree.read I)) I) in
         with_slots (put_mid 770 262 s1 (lists_laid.laid (moved_back 1 e (nodes.read (queue_part s1))))) n ≡ laid (waits e x n m) b
     waiting x n =
         let p = tree.laid (inserted (pair e x) (tree.read I)) I in
@@ -303,6 +302,11 @@ module _ (b : List ℕ) (y : Bytes b) (h : whole_b b ≡ true) where
         let j3 = set-tail s2 A p q T j2 0 (n % 256) (omega arith) in
         let j4 = set-tail (set s2 1032 (n % 256)) A p q (set T 0 (n % 256)) j3 1 (n / 256) (omega arith) in
         laid_from (waits e x n m) b j4 (active-self b y h) refl is refl refl (flag-self b y h) (walk-self b y h)
+
+    pub waits_then : (x n : ℕ) (p q t : List ℕ) → p ≡ tree.laid (inserted (pair e x) (tree.read I)) I
+        → q ≡ lists_laid.laid (moved_back 1 e (nodes.read (queue_part (put_mid 385 385 b p)))) → t ≡ with_slots (put_mid 770 262 (put_mid 385 385 b p) q) n
+        → t ≡ laid (waits e x n m) b
+    waits_then x n p q t a z w = w ∙ rw (z, a) (waiting x n)
 
   -- ---- an inactive entry leaves
 
@@ -331,7 +335,7 @@ module _ (b : List ℕ) (y : Bytes b) (h : whole_b b ≡ true) where
         let l : length p ≡ 385 = ap length q ∙ trees.length-laid I long-inactive (removed_at i (tree.read I)) shorter in
         subst (λ (z : List ℕ). Queue z) (sym (queue-is (put_mid 385 385 b p) A p Q T (put-inactive b A I Q T J p l))) own-queue
 
-    pub left-inactive : let s1 = put_mid 385 385 b (tree.laid (removed_at i (tree.read I)) I) in
+    left-inactive : let s1 = put_mid 385 385 b (tree.laid (removed_at i (tree.read I)) I) in
         put_mid 770 262 s1 (lists_laid.laid (without_entry e (nodes.read (queue_part s1)))) ≡ laid (leaves_inactive e m) b
     left-inactive =
         let p = tree.laid (removed_at i (tree.read I)) I in
@@ -342,6 +346,10 @@ module _ (b : List ℕ) (y : Bytes b) (h : whole_b b ≡ true) where
         let j2 = put-queue s1 A p Q T j1 q (ap length is ∙ queues.out-length 2 128 (lists_laid.arcs 2 0 (m.clean_up ∷ (lists.without e m.activation ∷ [])))) in
         laid_from (leaves_inactive e m) b j2 (active-self b y h)
         (ap (λ (l : List Pair). tree.laid l I) (removed-is I e i at (omega (arith, F.once e)))) is (low-self b y h) (high-self b y h) (flag-self b y h) (walk-self b y h)
+
+    pub leaves_then : (p q : List ℕ) → p ≡ tree.laid (removed_at i (tree.read I)) I → q ≡ lists_laid.laid (without_entry e (nodes.read (queue_part (put_mid 385 385 b p))))
+        → put_mid 770 262 (put_mid 385 385 b p) q ≡ laid (leaves_inactive e m) b
+    leaves_then p q a z = rw (z, a) left-inactive
 
   -- ---- the clean-up queue's front
 
@@ -366,10 +374,10 @@ module _ (b : List ℕ) (y : Bytes b) (h : whole_b b ≡ true) where
       pub front_above : 0 < tree.subject_at A i
       front_above = omega (arith, (mark-range m F e ms front).0, front-subject)
 
-      pub front-says : (a x : ℕ) → a ≡ from_at A i → x ≡ tree.subject_at A i → pops.RemoveSubjectRange a (x - 1) ≡ (inner_step m).says
+      pub front-says : (a x : ℕ) → a ≡ from_at A i → x ≡ tree.subject_at A i → Some (Ok (RemoveSubjectRange a (x - 1))) ≡ (inner_step m).says
       front-says a x qa qx =
-          ap (λ (k : ℕ). pops.RemoveSubjectRange k (x - 1)) (qa ∙ sym (place-from-at A e i at))
-          ∙ ap (λ (k : ℕ). pops.RemoveSubjectRange (place_of e m.active).from (k - 1)) (qx ∙ sym front-subject)
+          ap (λ (k : ℕ). Some (Ok (RemoveSubjectRange k (x - 1)))) (qa ∙ sym (place-from-at A e i at))
+          ∙ ap (λ (k : ℕ). Some (Ok (RemoveSubjectRange (place_of e m.active).from (k - 1)))) (qx ∙ sym front-subject)
           ∙ sym (ap (λ (z : Step). z.says) (step-front m e ms front))
 
     popped-queue : without_entry e (nodes.read Q) ≡ queue_of (with_clean_up ms m.last_gap m)
@@ -385,8 +393,8 @@ module _ (b : List ℕ) (y : Bytes b) (h : whole_b b ≡ true) where
         let j = put-queue b A I Q T J q (ap length is ∙ queues.out-length 2 128 (lists_laid.arcs 2 0 (ms ∷ (m.activation ∷ [])))) in
         laid_from (with_clean_up ms m.last_gap m) b j (active-self b y h) (inactive-self b y h) is (low-self b y h) (high-self b y h) (flag-self b y h) (walk-self b y h)
 
-    pub popped-then : put_mid 770 262 b (lists_laid.laid (without_entry e (nodes.read Q))) ≡ laid (inner_step m).then b
-    popped-then = popped ∙ sym (ap (λ (z : Step). laid z.then b) (step-front m e ms front))
+    pub popped-then : (q : List ℕ) → q ≡ lists_laid.laid (without_entry e (nodes.read Q)) → put_mid 770 262 b q ≡ laid (inner_step m).then b
+    popped-then q z = ap (put_mid 770 262 b) z ∙ popped ∙ sym (ap (λ (z : Step). laid z.then b) (step-front m e ms front))
 
   -- ---- the last gap
 
@@ -399,8 +407,8 @@ module _ (b : List ℕ) (y : Bytes b) (h : whole_b b ≡ true) where
   pub cleared-then : m.clean_up ≡ [] → m.last_gap ≡ true → set b 1034 0 ≡ laid (inner_step m).then b
   cleared-then q f = cleared q ∙ sym (ap (λ (z : Step). laid z.then b) (step-last m q f))
 
-  pub last_says : m.clean_up ≡ [] → m.last_gap ≡ true → (a : ℕ) → a ≡ past 0 m.active → pops.RemoveSubjectRange a 8191 ≡ (inner_step m).says
-  last_says q f a p = ap (λ (k : ℕ). pops.RemoveSubjectRange k 8191) p ∙ sym (ap (λ (z : Step). z.says) (step-last m q f))
+  pub last_says : m.clean_up ≡ [] → m.last_gap ≡ true → (a : ℕ) → a ≡ past 0 m.active → Some (Ok (RemoveSubjectRange a 8191)) ≡ (inner_step m).says
+  last_says q f a p = ap (λ (k : ℕ). Some (Ok (RemoveSubjectRange k 8191))) p ∙ sym (ap (λ (z : Step). z.says) (step-last m q f))
 
   pub past-few : m.last_gap ≡ true → past 0 m.active ≤ 8191
   past-few f = F.last-gap f
@@ -448,20 +456,14 @@ module _ (b : List ℕ) (y : Bytes b) (h : whole_b b ≡ true) where
         let j2 = put-queue s1 A p Q T j1 q (ap length is ∙ queues.out-length 2 128 (lists_laid.arcs 2 0 (m.clean_up ∷ (qs ∷ [])))) in
         active-is (put_mid 770 262 s1 q) A p q T j2
 
-    module _ (c : m.clean_up ≡ []) (f : m.last_gap ≡ false) (x : ℕ) (qx : x ≡ tree.subject_at I i) where
+    module _ (c : CleanedUp m) (x : ℕ) (qx : x ≡ tree.subject_at I i) where
       next-step : inner_step m ≡ activates e x qs m
-      next-step = step-next m c f (e ∷ qs) front ∙ ap (λ (k : ℕ). activates e k qs m) (next-subject ∙ sym qx)
+      next-step = step-next m c.marks c.flag (e ∷ qs) front ∙ ap (λ (k : ℕ). activates e k qs m) (next-subject ∙ sym qx)
 
-      pub next-again : (r : Bool) → r ≡ has_subject x m.active → r ≡ true → pops.CallAgain ≡ (inner_step m).says
-      next-again r q t = ap (λ (k : Bool). cond k pops.CallAgain (pops.AddSubject x)) (sym t ∙ q) ∙ sym (ap (λ (z : Step). z.says) next-step)
+      pub next-says : (r : Bool) → r ≡ has_subject x m.active → cond r call_again (Some (Ok (AddSubject x))) ≡ (inner_step m).says
+      next-says r q = ap (λ (k : Bool). cond k call_again (Some (Ok (AddSubject x)))) q ∙ sym (ap (λ (z : Step). z.says) next-step)
 
-      pub next-adds : (r : Bool) → r ≡ has_subject x m.active → r ≡ false → pops.AddSubject x ≡ (inner_step m).says
-      next-adds r q t = ap (λ (k : Bool). cond k pops.CallAgain (pops.AddSubject x)) (sym t ∙ q) ∙ sym (ap (λ (z : Step). z.says) next-step)
-
-      pub next-then : (t : List ℕ) → t ≡ laid (becomes_active e x qs m) b → t ≡ laid (inner_step m).then b
-      next-then t q = q ∙ sym (ap (λ (z : Step). laid z.then b) next-step)
-
-    pub activated : m.clean_up ≡ [] → (x : ℕ)
+    activated : m.clean_up ≡ [] → (x : ℕ)
         → let s1 = put_mid 385 385 b (tree.laid (removed_at i (tree.read I)) I) in
         let s2 = put_mid 770 262 s1 (lists_laid.laid (without_entry e (nodes.read (queue_part s1)))) in
         put_mid 0 385 s2 (tree.laid (inserted (pair e x) (tree.read (active_part s2))) (active_part s2)) ≡ laid (becomes_active e x qs m) b
@@ -478,6 +480,12 @@ module _ (b : List ℕ) (y : Bytes b) (h : whole_b b ≡ true) where
         let j3 = put-active s2 A p q T j2 a (ap length ia ∙ trees.length-laid A long-active (inserted (pair e x) m.active) (omega (arith, inserted-length (pair e x) m.active, read_length A, next-room))) in
         laid_from (becomes_active e x qs m) b j3 ia
         (ap (λ (l : List Pair). tree.laid l I) (removed-is I e i at (omega (arith, F.once e)))) is (low-self b y h) (high-self b y h) (flag-self b y h) (walk-self b y h)
+
+    pub next-then : (c : CleanedUp m) (x : ℕ) → x ≡ tree.subject_at I i → (p q a : List ℕ) → p ≡ tree.laid (removed_at i (tree.read I)) I
+        → q ≡ lists_laid.laid (without_entry e (nodes.read (queue_part (put_mid 385 385 b p))))
+        → (let s2 = put_mid 770 262 (put_mid 385 385 b p) q in a ≡ tree.laid (inserted (pair e x) (tree.read (active_part s2))) (active_part s2))
+        → put_mid 0 385 (put_mid 770 262 (put_mid 385 385 b p) q) a ≡ laid (inner_step m).then b
+    next-then c x qx p q a pq qq aq = rw (aq, qq, pq) (activated c.marks x ∙ sym (ap (λ (z : Step). laid z.then b) (next-step c x qx)))
 
   -- ---- the gap that an active entry leaves
 
@@ -515,13 +523,13 @@ module _ (b : List ℕ) (y : Bytes b) (h : whole_b b ≡ true) where
     J1 : Joined s1 A I W T
     J1 = put-queue b A I Q T J W W-long
 
-    pub kept-gap : (g : Gap) → g ≡ Same → b ≡ laid (with_clean_up (gapped g e m.clean_up m.last_gap).clean_up (gapped g e m.clean_up m.last_gap).last_gap m) b
+    kept-gap : (g : Gap) → g ≡ Same → b ≡ laid (with_clean_up (gapped g e m.clean_up m.last_gap).clean_up (gapped g e m.clean_up m.last_gap).last_gap m) b
     kept-gap g q = rw q (laid_from m b J (active-self b y h) (inactive-self b y h) (queue-self b y h) (low-self b y h) (high-self b y h) (flag-self b y h) (walk-self b y h))
 
-    pub withdrawn : (g : Gap) → g ≡ Withdrawn → s1 ≡ laid (with_clean_up (gapped g e m.clean_up m.last_gap).clean_up (gapped g e m.clean_up m.last_gap).last_gap m) b
+    withdrawn : (g : Gap) → g ≡ Withdrawn → s1 ≡ laid (with_clean_up (gapped g e m.clean_up m.last_gap).clean_up (gapped g e m.clean_up m.last_gap).last_gap m) b
     withdrawn g q = rw q (laid_from unmarked b J1 (active-self b y h) (inactive-self b y h) W-is (low-self b y h) (high-self b y h) (flag-self b y h) (walk-self b y h))
 
-    pub last-gap : (g : Gap) → g ≡ Last → with_flag s1 true ≡ laid (with_clean_up (gapped g e m.clean_up m.last_gap).clean_up (gapped g e m.clean_up m.last_gap).last_gap m) b
+    last-gap : (g : Gap) → g ≡ Last → with_flag s1 true ≡ laid (with_clean_up (gapped g e m.clean_up m.last_gap).clean_up (gapped g e m.clean_up m.last_gap).last_gap m) b
     last-gap g q = rw q (
         laid_from (with_clean_up (lists.without e m.clean_up) true m) b (set-tail s1 A I W T J1 2 (flag_over true (get_or s1 1034 0)) (omega arith)) (active-self b y h) (inactive-self b y h) W-is (low-self b y h) (high-self b y h)
         (ap (flag_over true) (tail_at s1 A I W T J1 2)) (walk-self b y h))
@@ -539,7 +547,7 @@ module _ (b : List ℕ) (y : Bytes b) (h : whole_b b ≡ true) where
     read-then : nodes.read (queue_part s1) ≡ queue_of unmarked
     read-then = ap nodes.read queue-then ∙ queues.read_laid (without_entry e (nodes.read Q)) valid-unmarked ∙ withdrawn-queue
 
-    pub queue-ready : Queue (queue_part s1)
+    queue-ready : Queue (queue_part s1)
     queue-ready =
         let z = queues.out-sizes 2 128 (lists_laid.arcs 2 0 (lists.without e m.clean_up ∷ (m.activation ∷ []))) in
         record { whole = whole-then; classes = ap nodes.classes (queue-then ∙ W-is) ∙ z.0; entries = ap nodes.entries (queue-then ∙ W-is) ∙ z.1 }
@@ -563,13 +571,38 @@ module _ (b : List ℕ) (y : Bytes b) (h : whole_b b ≡ true) where
           ∙ ap (λ (c : List ℕ). queues.lists 128 ((c ++ (q ∷ [])) ∷ (lists.without q m.activation ∷ []))) (gone q (lists.without e m.clean_up) (omega (arith, without-less q e m.clean_up, unmarked-next)))
           ∙ ap (λ (a : List ℕ). queues.lists 128 ((lists.without e m.clean_up ++ (q ∷ [])) ∷ (a ∷ []))) (gone q m.activation (omega (arith, F.waits q, F.once q, any_some q m.active next)))
 
-      pub marked_next : (g : Gap) → g ≡ Marked q → put_mid 770 262 s1 (lists_laid.laid (moved_back 0 q (nodes.read (queue_part s1)))) ≡ laid (with_clean_up (gapped g e m.clean_up m.last_gap).clean_up (gapped g e m.clean_up m.last_gap).last_gap m) b
+      marked_next : (g : Gap) → g ≡ Marked q → put_mid 770 262 s1 (lists_laid.laid (moved_back 0 q (nodes.read (queue_part s1)))) ≡ laid (with_clean_up (gapped g e m.clean_up m.last_gap).clean_up (gapped g e m.clean_up m.last_gap).last_gap m) b
       marked_next g z =
           let n = with_clean_up (lists.without e m.clean_up ++ (q ∷ [])) m.last_gap m in
           let x = lists_laid.laid (moved_back 0 q (nodes.read (queue_part s1))) in
           let is : x ≡ lists_laid.laid (queue_of n) = ap (λ (l : Lists). lists_laid.laid l) marked-queue in
           let j = put-queue s1 A I W T J1 x (ap length is ∙ queues.out-length 2 128 (lists_laid.arcs 2 0 ((lists.without e m.clean_up ++ (q ∷ [])) ∷ (m.activation ∷ [])))) in
           rw z (laid_from n b j (active-self b y h) (inactive-self b y h) is (low-self b y h) (high-self b y h) (flag-self b y h) (walk-self b y h))
+
+    -- so with what the code stores: the queue without e is q, and then u
+    module _ (g : Gap) (qg : g ≡ gap_of e (place_of e m.active) m.clean_up) where
+      abbrev G : Gaps
+      G = gaps e (place_of e m.active) m.clean_up m.last_gap
+
+      as_gaps : (t : List ℕ) → t ≡ laid (with_clean_up (gapped g e m.clean_up m.last_gap).clean_up (gapped g e m.clean_up m.last_gap).last_gap m) b → t ≡ laid (with_clean_up G.clean_up G.last_gap m) b
+      as_gaps t q = q ∙ sym (ap (λ (z : Gaps). laid (with_clean_up z.clean_up z.last_gap m) b) (gaps_are e m.clean_up m.last_gap (place_of e m.active) g qg))
+
+      pub same-then : g ≡ Same → b ≡ laid (with_clean_up G.clean_up G.last_gap m) b
+      same-then z = as_gaps b (kept-gap g z)
+
+      module _ (q : List ℕ) (qq : q ≡ W) where
+        pub withdrawn-then : g ≡ Withdrawn → put_mid 770 262 b q ≡ laid (with_clean_up G.clean_up G.last_gap m) b
+        withdrawn-then z = as_gaps (put_mid 770 262 b q) (ap (put_mid 770 262 b) qq ∙ withdrawn g z)
+
+        pub last-then : g ≡ Last → (t : List ℕ) → t ≡ with_flag (put_mid 770 262 b q) true → t ≡ laid (with_clean_up G.clean_up G.last_gap m) b
+        last-then z t tq = as_gaps t (tq ∙ ap (λ (k : List ℕ). with_flag (put_mid 770 262 b k) true) qq ∙ last-gap g z)
+
+        pub queue-after : Queue (queue_part (put_mid 770 262 b q))
+        queue-after = subst (λ (z : List ℕ). Queue (queue_part (put_mid 770 262 b z))) (sym qq) queue-ready
+
+        pub marked-then : (k : ℕ) → g ≡ Marked k → (u : List ℕ) → u ≡ lists_laid.laid (moved_back 0 k (nodes.read (queue_part (put_mid 770 262 b q))))
+            → put_mid 770 262 (put_mid 770 262 b q) u ≡ laid (with_clean_up G.clean_up G.last_gap m) b
+        marked-then k z u uq = as_gaps _ (rw (uq, qq) (marked_next k (sym z ∙ qg) g z))
 
     -- ---- and it leaves
 
@@ -597,12 +630,12 @@ module _ (b : List ℕ) (y : Bytes b) (h : whole_b b ≡ true) where
         byte-is : get_or sc 1035 0 ≡ get_or b 1035 0
         byte-is = tail_at sc (tree.laid m.active A) (tree.laid m.inactive I) (lists_laid.laid (queue_of c1)) (tail_laid c1 b) Jc 3 ∙ sym (walk-self b y h)
 
-        pub record Walked : Type 0 where
+        record Walked : Type 0 where
           pub byte : ℕ
           pub joined : Joined (with_walk_past 1035 sc e w) (tree.laid m.active A) (tree.laid m.inactive I) (lists_laid.laid (queue_of c1)) (m.slots % 256 ∷ (m.slots / 256 ∷ (flag_over g.last_gap (get_or b 1034 0) ∷ (byte ∷ []))))
           pub is : byte ≡ walk_over (moved_past e (goes_on p) m.walk) (get_or b 1035 0)
 
-        pub walked : Walked
+        walked : Walked
         walked = elim (ℕ_discrete (get_or sc 1035 0) e) [
           | yes q ↦ record {
             byte = walk_over w (get_or sc 1035 0);
@@ -621,7 +654,7 @@ module _ (b : List ℕ) (y : Bytes b) (h : whole_b b ≡ true) where
       module _ (w : Option ℕ) (s : List ℕ) (v : ℕ)
           (j : Joined s (tree.laid m.active A) (tree.laid m.inactive I) (lists_laid.laid (queue_of c1)) (m.slots % 256 ∷ (m.slots / 256 ∷ (flag_over g.last_gap (get_or b 1034 0) ∷ (v ∷ [])))))
           (n : ℕ) (nq : n ≡ m.slots + g.more) (vq : v ≡ walk_over (moved_past e (goes_on p) m.walk) (get_or b 1035 0)) where
-        pub active-then : active_part (with_slots s n) ≡ A
+        active-then : active_part (with_slots s n) ≡ A
         active-then =
             let T0 = m.slots % 256 ∷ (m.slots / 256 ∷ (flag_over g.last_gap (get_or b 1034 0) ∷ (v ∷ []))) in
             let A' = tree.laid m.active A in
@@ -631,7 +664,7 @@ module _ (b : List ℕ) (y : Bytes b) (h : whole_b b ≡ true) where
             let j2 = set-tail (set s 1032 (n % 256)) A' I' Q' (set T0 0 (n % 256)) j1 1 (n / 256) (omega arith) in
             active-is (with_slots s n) A' I' Q' (set (set T0 0 (n % 256)) 1 (n / 256)) j2 ∙ sym (active-self b y h)
 
-        pub left-active : put_mid 0 385 (with_slots s n) (tree.laid (removed_at i (tree.read (active_part (with_slots s n)))) (active_part (with_slots s n))) ≡ laid (leaves e p g m) b
+        left-active : put_mid 0 385 (with_slots s n) (tree.laid (removed_at i (tree.read (active_part (with_slots s n)))) (active_part (with_slots s n))) ≡ laid (leaves e p g m) b
         left-active =
             let T0 = m.slots % 256 ∷ (m.slots / 256 ∷ (flag_over g.last_gap (get_or b 1034 0) ∷ (v ∷ []))) in
             let A' = tree.laid m.active A in
@@ -645,3 +678,34 @@ module _ (b : List ℕ) (y : Bytes b) (h : whole_b b ≡ true) where
             laid_from (leaves e p g m) b j3
             (is ∙ ap (λ (l : List Pair). tree.laid l A) (removed-is A e i at (omega (arith, F.once e))))
             refl refl (ap (λ (k : ℕ). k % 256) nq) (ap (λ (k : ℕ). k / 256) nq) refl vq
+
+    -- the place i of the entry, its gap, and where the walk goes on: the queue, the walk and the counter become s1, s2 and s3
+    module _ (i : ℕ) (at : position (is_entry e) m.active ≡ Some i) (g : Gap) (qg : g ≡ gap_of e (place_of e m.active) m.clean_up) (n : ℕ) (qn : n ≡ m.slots + more g)
+        (w : Option ℕ) (wq : w ≡ next_on (tree.subject_at A i) (drop (suc i) m.active)) (s1 s2 s3 : List ℕ)
+        (q1 : let G = gaps e (place_of e m.active) m.clean_up m.last_gap in s1 ≡ laid (with_clean_up G.clean_up G.last_gap m) b)
+        (q2 : s2 ≡ with_walk_past 1035 s1 e w) (q3 : s3 ≡ with_slots s2 n)
+      where
+        abbrev H : Gaps
+        H = gaps e (place_of e m.active) m.clean_up m.last_gap
+
+        abbrev sw : List ℕ
+        sw = with_walk_past 1035 (laid (with_clean_up H.clean_up H.last_gap m) b) e w
+
+        more_then : n ≡ m.slots + H.more
+        more_then =
+            qn ∙ ap (λ (k : ℕ). m.slots + k) (sym (ap (λ (z : Gaps). z.more) (gaps_are e m.clean_up m.last_gap (place_of e m.active) g qg) ∙ more-is g e m.clean_up m.last_gap))
+
+        s3-is : s3 ≡ with_slots sw n
+        s3-is = q3 ∙ ap (λ (z : List ℕ). with_slots z n) (q2 ∙ ap (λ (z : List ℕ). with_walk_past 1035 z e w) q1)
+
+        -- the tree is as it was
+        pub tree-then : IsTree (active_part s3) × (i < tree.size (active_part s3))
+        tree-then =
+            let k = walked i at H w wq in
+            subst (λ (t : List ℕ). IsTree t × (i < tree.size t)) (sym (ap active_part s3-is ∙ active-then i at H w sw k.byte k.joined n more_then k.is)) (tree-active, place-active i at H)
+
+        pub left-then : (t : List ℕ) → t ≡ tree.laid (removed_at i (tree.read (active_part s3))) (active_part s3) → put_mid 0 385 s3 t ≡ laid (leaves e (place_of e m.active) H m) b
+        left-then t qt =
+            let k = walked i at H w wq in
+            ap (put_mid 0 385 s3) qt ∙ ap (λ (z : List ℕ). put_mid 0 385 z (tree.laid (removed_at i (tree.read (active_part z))) (active_part z))) s3-is
+            ∙ left-active i at H w sw k.byte k.joined n more_then k.is

@@ -7,7 +7,7 @@ use mathlib.Core.Bool.{Bool, true, false, cond, not, ◌&&◌, ◌||◌, and-fal
 use native.Mathlib.Omega.{arith}
 use lib.Dec.{leb, ltb}
 use lib.ListN.{length, drop}
-use borrow.Author.Tests.{lt-ltb, le-ltb, le-leb, lt-leb, eq-eqb, ne_eqb}
+use borrow.Author.Tests.{le-leb, lt-leb, eq-eqb, ne_eqb}
 use Rattle.std.specs.Prelude.{Some, position}
 use Rattle.multi_cycle_list.specs.Lists as lists
 use Rattle.multi_cycle_list.specs.Lists.{first}
@@ -72,16 +72,6 @@ module _ (t : List ℕ) (e i : ℕ) (q : position (is_entry e) (tree.read t) ≡
 not_new : (a b c : Bool) → c ≡ true → ((a || b) && not c) ≡ false
 not_new a b c q = rw q (and-false (a || b))
 
-new-by-mark : (a b c : Bool) → a ≡ true → c ≡ false → ((a || b) && not c) ≡ true
-new-by-mark a b c p q = rw (p, q) refl
-
-new-by-gap : (a b c : Bool) → b ≡ true → c ≡ false → ((a || b) && not c) ≡ true
-new-by-gap true b c p q = rw q refl
-new-by-gap false b c p q = rw (p, q) refl
-
-none-new : (a b c : Bool) → a ≡ false → b ≡ false → ((a || b) && not c) ≡ false
-none-new a b c p q = rw (p, q) refl
-
 module _ (t marks : List ℕ) (i j : ℕ) (z : j ≡ suc i) (h : j < size t) (e q : ℕ) (here : e ≡ entry_at t i) (next : q ≡ entry_at t j) where
   abbrev new : Bool → Gap
   new b = cond b (Marked (entry_at t j)) Withdrawn
@@ -99,17 +89,13 @@ module _ (t marks : List ℕ) (i j : ℕ) (z : j ≡ suc i) (h : j < size t) (e 
   next-marked r = sym (before-is ∙ ap new (not_new (queued (entry_at t i) marks) (ltb (subject_at t i) (subject_at t j)) (queued (entry_at t j) marks) (queued-next true r)))
 
   module _ (r : queued q marks ≡ false) where
-    pub here-marked : queued e marks ≡ true → Marked q ≡ gap_before (entry_at t i) (subject_at t i) (drop (suc i) (tree.read t)) marks
-    here-marked k = ap Marked next ∙ sym (before-is ∙ ap new (new-by-mark (queued (entry_at t i) marks) (ltb (subject_at t i) (subject_at t j)) (queued (entry_at t j) marks) (queued-here true k) (queued-next false r)))
-
-    pub gap-before : (x y : ℕ) → x ≡ subject_at t i → y ≡ subject_at t j → x < y → Marked q ≡ gap_before (entry_at t i) (subject_at t i) (drop (suc i) (tree.read t)) marks
-    gap-before x y a b l =
-        ap Marked next
-        ∙ sym (before-is ∙ ap new (new-by-gap (queued (entry_at t i) marks) (ltb (subject_at t i) (subject_at t j)) (queued (entry_at t j) marks) (lt-ltb (subject_at t i) (subject_at t j) (omega arith)) (queued-next false r)))
-
-    pub no-gap-before : queued e marks ≡ false → (x y : ℕ) → x ≡ subject_at t i → y ≡ subject_at t j → y ≤ x → Withdrawn ≡ gap_before (entry_at t i) (subject_at t i) (drop (suc i) (tree.read t)) marks
-    no-gap-before k x y a b l =
-        sym (before-is ∙ ap new (none-new (queued (entry_at t i) marks) (ltb (subject_at t i) (subject_at t j)) (queued (entry_at t j) marks) (queued-here false k) (le-ltb (subject_at t i) (subject_at t j) (omega arith))))
+    pub gap-before : (x y : ℕ) → x ≡ subject_at t i → y ≡ subject_at t j
+        → gap_before (entry_at t i) (subject_at t i) (drop (suc i) (tree.read t)) marks ≡ cond (queued e marks || ltb x y) (Marked q) Withdrawn
+    gap-before x y a b = before-is ∙ rw (queued-next false r, ← here, ← next, a, b) (by (queued e marks || ltb (subject_at t i) (subject_at t j)))
+      where
+        by : (c : Bool) → cond (c && true) (Marked q) Withdrawn ≡ cond c (Marked q) Withdrawn
+        by true = refl
+        by false = refl
 
 -- ---- whole bytes
 
@@ -169,3 +155,25 @@ module _ (s : List ℕ) (w : whole_b s ≡ true) where
   -- the fronts of the queues
   pub front-active : (e : ℕ) → first (read s).clean_up ≡ Some e → has_entry e (read s).active ≡ true
   front-active e h = true-any (is_entry e) (read s).active (omega (arith, (known s w).facts.marked e, front-counts e (read s).clean_up h))
+
+-- what whole bytes tell, for the tests of what is asked of their parts
+module _ (s : List ℕ) (w : whole_b s ≡ true) where
+  pub long : length s ≡ 1036
+  long = (known s w).long
+
+  pub active-is : IsTree (active_part s)
+  active-is = (known s w).active
+
+  pub inactive-is : IsTree (inactive_part s)
+  inactive-is = (known s w).inactive
+
+  pub queue-is : nodes.whole_b (queue_part s) ≡ true
+  queue-is = (known s w).queue-whole
+
+  pub classes-are : nodes.classes (queue_part s) ≡ 2
+  classes-are = (known s w).classes
+
+  pub entries-are : nodes.entries (queue_part s) ≡ 128
+  entries-are = (known s w).entries
+
+pub ruleset known_parts = (long, active-is, inactive-is, queue-is, classes-are, entries-are)

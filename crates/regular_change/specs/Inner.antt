@@ -1,11 +1,17 @@
 -- What the inner functions answer and store, as the code goes. No contract of a public call cites this.
-use Rattle.std.specs.Prelude.{ℕ, suc, ◌-◌, ◌/◌, ◌%◌, List, [], ◌∷◌, Bool, cond, eqb, get_or, set}
+use Rattle.std.specs.Prelude.{ℕ, suc, ◌-◌, ◌/◌, ◌%◌, ◌≡◌, List, [], ◌∷◌, Bool, false, cond, eqb, get_or, set}
 use Rattle.entry_tree.specs.Pairs.{Pair, Place}
 use Rattle.entry_tree.specs.Places.{subject_at}
+use Rattle.regular.specs.Registry.{Registry}
 use Rattle.regular.specs.Bytes.{flag_over}
 use Rattle.regular.specs.Steps.{is_head, new_mark}
 use Rattle.regular_change.specs.declared.look.Gap.{Gap}
 use Rattle.regular_change.specs.declared.look.Gap.TheVariants.{Same, Withdrawn, Marked, Last}
+
+-- nothing is left to clean up: no head has a mark, and the last-gap flag is clear
+pub record CleanedUp (m : Registry) : Type 0 where
+  pub marks : m.clean_up ≡ []
+  pub flag : m.last_gap ≡ false
 
 -- the first subject past the pair before the place i of a tree
 abbrev pub from_at : List ℕ → ℕ → ℕ

@@ -6,17 +6,17 @@ ghost use Rattle.entry_tree.specs.Places.{size, entry_at};
 ghost use Rattle.regular.specs.Registry.{fresh};
 ghost use Rattle.regular.specs.Steps.{waits, joins, leaves_inactive, leaves, gaps, with_clean_up, inner_step};
 ghost use Rattle.regular.specs.Bytes.{active_part, whole_b, read, laid};
-ghost use Rattle.regular_change.specs.Inner.{gap_of, more, with_slots, with_flag};
+ghost use Rattle.regular_change.specs.Inner.{CleanedUp, gap_of, more, with_slots, with_flag};
 
 use crate::look::{Gap, from_at, on_active};
 use entry_tree::walk::{next_on, walk_past};
 use entry_tree::{insert, position, remove, subject_at};
 use multi_cycle_list::inner::{inner_move_back, inner_open, inner_remove};
-use regular::{Popped, past_last};
-use state::fill;
+use regular::{CallAgain, FilterUpdate, past_last};
+use state::{Entry, fill};
 
-fn set_slots(s: &mut [u8], n: usize)
-    requires { (length s.old ≡ 1036) × (n < 65536) }
+fn set_slots(s: &mut [u8], n: u16)
+    requires { length s.old ≡ 1036 }
     ensures { s.new ≡ with_slots s.old n }
 {
     s[1032] = (n % 256) as u8;
@@ -33,8 +33,8 @@ fn set_last_gap(s: &mut [u8])
 }
 
 // Every byte is written.
-pub fn open_registry(s: &mut [u8], n: usize)
-    requires { (length s.old ≡ 1036) × (n < 65536) }
+pub fn open_registry(s: &mut [u8], n: u16)
+    requires { length s.old ≡ 1036 }
     ensures { s.new ≡ laid (fresh n) (replicate 1036 0) }
 {
     fill(s, 0);
@@ -44,20 +44,21 @@ pub fn open_registry(s: &mut [u8], n: usize)
 }
 
 // The entry joins the inactive ones and the activation queue; n slots are left.
-pub fn wait_for(s: &mut [u8], entry: u8, subject: u16, n: usize)
-    requires { (whole_b s.old ≡ true) × (((entry < 128) × (n < 65536)) × ((has_entry «entry» (read s.old).inactive ≡ false) × (has_entry «entry» (read s.old).active ≡ false))) }
+pub fn wait_for(s: &mut [u8], entry: Entry, subject: u16, n: u16)
+    requires { (whole_b s.old ≡ true) × ((has_entry «entry» (read s.old).inactive ≡ false) × (has_entry «entry» (read s.old).active ≡ false)) }
     ensures { s.new ≡ laid (waits «entry» subject n (read s.old)) s.old }
 {
+    let entry = entry.number();
     insert(&mut s[385..770], entry, subject);
-    inner_move_back(&mut s[770..1032], 1, entry as usize);
+    inner_move_back(&mut s[770..1032], 1, usize::from(entry));
     set_slots(s, n);
 }
 
-pub fn join(s: &mut [u8], entry: u8, subject: u16)
-    requires { (whole_b s.old ≡ true) × ((entry < 128) × ((has_entry «entry» (read s.old).inactive ≡ false) × (has_entry «entry» (read s.old).active ≡ false))) }
+pub fn join(s: &mut [u8], entry: Entry, subject: u16)
+    requires { (whole_b s.old ≡ true) × ((has_entry «entry» (read s.old).inactive ≡ false) × (has_entry «entry» (read s.old).active ≡ false)) }
     ensures { s.new ≡ laid (joins «entry» subject (read s.old)) s.old }
 {
-    insert(&mut s[0..385], entry, subject);
+    insert(&mut s[0..385], entry.number(), subject);
 }
 
 pub fn leave_inactive(s: &mut [u8], entry: u8)
@@ -66,35 +67,35 @@ pub fn leave_inactive(s: &mut [u8], entry: u8)
 {
     let i = position(&s[385..770], entry).unwrap();
     remove(&mut s[385..770], i);
-    inner_remove(&mut s[770..1032], entry as usize);
+    inner_remove(&mut s[770..1032], usize::from(entry));
 }
 
-// The clean-up queue and the last-gap flag when the active entry at the place i leaves.
-fn close_gap(s: &mut [u8], i: usize, entry: u8, gap: Gap)
-    requires { (whole_b s.old ≡ true) × ((i < size (active_part s.old)) × ((entry ≡ entry_at (active_part s.old) i) × (gap ≡ gap_of «entry» (place_of «entry» (read s.old).active) (read s.old).clean_up))) }
+// The clean-up queue and the last-gap flag when the active entry leaves.
+fn close_gap(s: &mut [u8], entry: u8, gap: Gap)
+    requires { (whole_b s.old ≡ true) × ((has_entry «entry» (read s.old).active ≡ true) × (gap ≡ gap_of «entry» (place_of «entry» (read s.old).active) (read s.old).clean_up)) }
     ensures { s.new ≡ laid (with_clean_up (gaps «entry» (place_of «entry» (read s.old).active) (read s.old).clean_up (read s.old).last_gap).clean_up (gaps «entry» (place_of «entry» (read s.old).active) (read s.old).clean_up (read s.old).last_gap).last_gap (read s.old)) s.old }
 {
     match gap {
         Gap::Same => {}
-        Gap::Withdrawn => inner_remove(&mut s[770..1032], entry as usize),
+        Gap::Withdrawn => inner_remove(&mut s[770..1032], usize::from(entry)),
         Gap::Marked(q) => {
-            inner_remove(&mut s[770..1032], entry as usize);
-            inner_move_back(&mut s[770..1032], 0, q as usize);
+            inner_remove(&mut s[770..1032], usize::from(entry));
+            inner_move_back(&mut s[770..1032], 0, usize::from(q));
         }
         Gap::Last => {
-            inner_remove(&mut s[770..1032], entry as usize);
+            inner_remove(&mut s[770..1032], usize::from(entry));
             set_last_gap(s);
         }
     }
 }
 
 // The active entry at the place i leaves; n slots are left.
-pub fn leave_active(s: &mut [u8], entry: u8, i: usize, gap: Gap, n: usize)
-    requires { (whole_b s.old ≡ true) × ((position (is_entry «entry») (read s.old).active ≡ Some i) × ((gap ≡ gap_of «entry» (place_of «entry» (read s.old).active) (read s.old).clean_up) × ((n ≡ (read s.old).slots + more gap) × (n < 65536)))) }
+pub fn leave_active(s: &mut [u8], entry: u8, i: usize, gap: Gap, n: u16)
+    requires { (whole_b s.old ≡ true) × ((position (is_entry «entry») (read s.old).active ≡ Some i) × ((gap ≡ gap_of «entry» (place_of «entry» (read s.old).active) (read s.old).clean_up) × (n ≡ (read s.old).slots + more gap))) }
     ensures { s.new ≡ laid (leaves «entry» (place_of «entry» (read s.old).active) (gaps «entry» (place_of «entry» (read s.old).active) (read s.old).clean_up (read s.old).last_gap) (read s.old)) s.old }
 {
     let w = next_on(&s[0..385], i);
-    close_gap(s, i, entry, gap);
+    close_gap(s, entry, gap);
     walk_past(s, 1035, entry, w);
     set_slots(s, n);
     remove(&mut s[0..385], i);
@@ -103,39 +104,40 @@ pub fn leave_active(s: &mut [u8], entry: u8, i: usize, gap: Gap, n: usize)
 // ---- the inner steps of a poll
 
 // The front of the clean-up queue.
-pub fn pop_clean_up_queue(s: &mut [u8], entry: u8) -> Popped
+pub fn pop_clean_up_queue(s: &mut [u8], entry: u8) -> Option<Result<FilterUpdate, CallAgain>>
     requires { (whole_b s.old ≡ true) × (first (read s.old).clean_up ≡ Some «entry») }
     ensures { (result ≡ (inner_step (read s.old)).says) × (s.new ≡ laid (inner_step (read s.old)).then s.old) }
 {
     let i = position(&s[0..385], entry).unwrap();
     let first = from_at(&s[0..385], i);
     let last = subject_at(&s[0..385], i) - 1;
-    inner_remove(&mut s[770..1032], entry as usize);
-    Popped::RemoveSubjectRange(first, last)
+    inner_remove(&mut s[770..1032], usize::from(entry));
+    Some(Ok(FilterUpdate::RemoveSubjectRange(first, last)))
 }
 
-pub fn pop_clean_up_last(s: &mut [u8]) -> Popped
+pub fn pop_clean_up_last(s: &mut [u8]) -> Option<Result<FilterUpdate, CallAgain>>
     requires { (whole_b s.old ≡ true) × (((read s.old).clean_up ≡ []) × ((read s.old).last_gap ≡ true)) }
     ensures { (result ≡ (inner_step (read s.old)).says) × (s.new ≡ laid (inner_step (read s.old)).then s.old) }
 {
     let first = past_last(&s[0..385]);
     s[1034] = 0;
-    Popped::RemoveSubjectRange(first as u16, 8191)
+    Some(Ok(FilterUpdate::RemoveSubjectRange(first as u16, 8191)))
 }
 
 // The front of the activation queue.
-pub fn pop_registration_queue(s: &mut [u8], entry: u8) -> Popped
-    requires { (whole_b s.old ≡ true) × (((read s.old).clean_up ≡ []) × (((read s.old).last_gap ≡ false) × (first (read s.old).activation ≡ Some «entry»))) }
+pub fn pop_registration_queue(s: &mut [u8], entry: u8) -> Option<Result<FilterUpdate, CallAgain>>
+    requires { (whole_b s.old ≡ true) × (CleanedUp (read s.old) × (first (read s.old).activation ≡ Some «entry»)) }
     ensures { (result ≡ (inner_step (read s.old)).says) × (s.new ≡ laid (inner_step (read s.old)).then s.old) }
 {
     let i = position(&s[385..770], entry).unwrap();
     let x = subject_at(&s[385..770], i);
     let known = on_active(s, x);
     remove(&mut s[385..770], i);
-    inner_remove(&mut s[770..1032], entry as usize);
+    inner_remove(&mut s[770..1032], usize::from(entry));
     insert(&mut s[0..385], entry, x);
-    if known {
-        return Popped::CallAgain;
-    }
-    Popped::AddSubject(x)
+    Some(if known {
+        Err(CallAgain)
+    } else {
+        Ok(FilterUpdate::AddSubject(x))
+    })
 }

@@ -12,7 +12,7 @@ use multi_cycle_list::inner::inner_is_linked;
 
 // What the removal of an active entry makes of the gap that it leaves. A non-head leaves none; of a head a mark, if any, is withdrawn,
 // and then the next is marked, or the last gap is, or neither.
-#[derive(Clone, Copy)]
+#[derive(Clone, Copy, Debug, PartialEq, Eq)]
 pub enum Gap {
     Same,
     Withdrawn,
@@ -48,11 +48,11 @@ pub fn on_inactive(s: &[u8], subject: u16) -> bool
     has_subject(&s[385..770], subject)
 }
 
-pub fn slots(s: &[u8]) -> usize
+pub fn slots(s: &[u8]) -> u16
     requires { whole_b s.now ≡ true }
-    ensures { (result ≡ (read s.now).slots) × (result < 65536) }
+    ensures { result ≡ (read s.now).slots }
 {
-    s[1032] as usize + 256 * s[1033] as usize
+    u16::from_le_bytes([s[1032], s[1033]])
 }
 
 // An active entry stands in no queue but the clean-up queue.
@@ -60,7 +60,7 @@ pub fn is_marked(s: &[u8], entry: u8) -> bool
     requires { (whole_b s.now ≡ true) × (has_entry «entry» (read s.now).active ≡ true) }
     ensures { result ≡ queued «entry» (read s.now).clean_up }
 {
-    inner_is_linked(&s[770..1032], entry as usize)
+    inner_is_linked(&s[770..1032], usize::from(entry))
 }
 
 // The first subject past the pair before the place i.
@@ -84,22 +84,18 @@ fn next_gap(s: &[u8], i: usize) -> Gap
     if is_marked(s, q) {
         return Gap::Withdrawn;
     }
-    if is_marked(s, e) {
-        return Gap::Marked(q);
+    if is_marked(s, e) || subject_at(&s[0..385], i) < subject_at(&s[0..385], i + 1) {
+        Gap::Marked(q)
+    } else {
+        Gap::Withdrawn
     }
-    if subject_at(&s[0..385], i) < subject_at(&s[0..385], i + 1) {
-        return Gap::Marked(q);
-    }
-    Gap::Withdrawn
 }
 
 pub fn gap_at(s: &[u8], i: usize) -> Gap
     requires { (whole_b s.now ≡ true) × (i < size (active_part s.now)) }
     ensures { result ≡ gap_of (entry_at (active_part s.now) i) (place_of (entry_at (active_part s.now) i) (read s.now).active) (read s.now).clean_up }
 {
-    let x = subject_at(&s[0..385], i);
-    let from = from_at(&s[0..385], i);
-    if x < from {
+    if subject_at(&s[0..385], i) < from_at(&s[0..385], i) {
         return Gap::Same;
     }
     if len(&s[0..385]) <= i + 1 {

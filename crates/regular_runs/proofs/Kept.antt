@@ -8,23 +8,22 @@ use lib.ListN.{length, replicate, length-replicate}
 use borrow.Author.Tests.{eq-eqb, le-ltb}
 use Rattle.state.proofs.Filled.{zero-bytes}
 use Rattle.state.specs.Lengths.{regular_length, image_length}
-use Rattle.state.specs.Result.{Result, done, answer, left, Bytes}
+use Rattle.state.specs.Outcome.{Outcome, done, answer, left, Bytes}
 use Rattle.state.proofs.Tests.{by_cond, not-both}
-use Rattle.state.proofs.Calls.{is_whole}
+use Rattle.state.proofs.Outcomes.{is_whole}
 use Rattle.regular.specs.Registry.{Registry, fresh}
 use Rattle.regular.specs.Bytes.{whole_b, read, laid}
 use Rattle.regular.specs.Steps.{Call, step}
 use Rattle.regular.specs.Calls.{on, bytes, opened_bytes, opening}
-use Rattle.regular.specs.declared.Answer.{Answer}
-use Rattle.regular.specs.declared.Answer.TheVariants.{Refused, Done}
 use Rattle.regular_valid.specs.Moves.{Registered, lists}
-use Rattle.regular_valid.specs.Inner.{moved, into}
+use Rattle.regular_valid.specs.Inner.{handed, moved, put}
 use Rattle.regular_valid.proofs.Inv.{Inv}
 use Rattle.regular_valid.proofs.Demand as demand
 use Rattle.regular_valid.proofs.Mean.{means, fresh-valid}
 use Rattle.filter_image.specs.Image as image
 use Rattle.filter_image.proofs.Laws.{length-image, holds-none, opened-none}
-use Rattle.gomxeli.specs.Answers.{regular_answer, accepted}
+use Rattle.gomxeli.specs.Answers as packing
+use Rattle.gomxeli.specs.Answers.{answered, accepted}
 use Rattle.gomxeli.proofs.Fields.{accepted_of}
 use Rattle.regular_runs.specs.Runs.{Now, begin}
 
@@ -39,7 +38,7 @@ state-long w g = means.meaning.whole_sized w.state g.whole
 
 -- ---- the start
 
-opens : (n k : ℕ) → k ≡ regular_length → n ≤ 65535 → opening k n ≡ done Done (fresh n)
+opens : (n k : ℕ) → k ≡ regular_length → n ≤ 65535 → opening k n ≡ done tt (fresh n)
 unfolding opening
 opens n k l h = rw (eq-eqb k regular_length l, le-ltb 65535 n h) refl
 
@@ -73,19 +72,19 @@ module _ (n : ℕ) (b i : List ℕ) (h : n ≤ 65535) (l : length b ≡ regular_
 module _ (k : Call) (w : Now) (g : Good w) where
   -- the call on bytes comes to what it comes to on their meaning
   pub on-meaning : on (step k) w.state ≡ step k (read w.state)
-  on-meaning = is_whole whole_b read laid (Refused 1) (step k) w.state g.whole
+  on-meaning = is_whole whole_b read laid (step k) w.state g.whole
 
   pub meaning-kept : read (bytes w.state (on (step k) w.state)) ≡ left (read w.state) (step k (read w.state))
   meaning-kept = means.meaning.keeps_meaning k w.state g.bytes g.whole
 
   pub regular-kept : (i : List ℕ) (r : Registered) → length i ≡ image_length
-      → ((x : ℕ) → into (answer (step k (read w.state))) (image.holds w.image) x ≡ image.holds i x)
+      → ((x : ℕ) → put (handed k (answer (step k (read w.state)))) (image.holds w.image) x ≡ image.holds i x)
       → moved k (answer (step k (read w.state))) w.registered ≡ r
       → Good (record { state = bytes w.state (on (step k) w.state); image = i; registered = r })
   regular-kept i r l f q =
       let m : Registry = read w.state in
       let j = demand.kept m (image.holds w.image) w.registered g.inv k in
-      let j' = demand.same_filter (left m (step k m)) (into (answer (step k m)) (image.holds w.image)) (moved k (answer (step k m)) w.registered) j (image.holds i) f in
+      let j' = demand.same_filter (left m (step k m)) (put (handed k (answer (step k m))) (image.holds w.image)) (moved k (answer (step k m)) w.registered) j (image.holds i) f in
       record {
         whole = means.meaning.keeps_whole k w.state g.bytes g.whole;
         bytes = means.meaning.keeps_bytes k w.state g.bytes g.whole;
@@ -99,12 +98,12 @@ pub left-kept : (w : Now) → Good w → (b : List ℕ) → b ≡ w.state → Go
 left-kept w g b q = rw q record { whole = g.whole; bytes = g.bytes; long = g.long; inv = g.inv }
 
 -- an opening that is refused
-pub refused-opening : (b : List ℕ) (n : ℕ) → accepted (regular_answer (answer (opening (length b) n))) ≡ false → opened_bytes b (opening (length b) n) ≡ b
+pub refused-opening : (b : List ℕ) (n : ℕ) → accepted (answered packing.done (answer (opening (length b) n))) ≡ false → opened_bytes b (opening (length b) n) ≡ b
 unfolding opening
 refused-opening b n =
     by_cond K (eqb (length b) regular_length)
     (λ l. by_cond K (ltb 65535 n) (λ t h. refl) (λ t h. not-both (sym (accepted_of 0 0 0) ∙ h)))
     (λ l h. refl)
   where
-    K : Result Answer Registry → Type 0
-    K r = accepted (regular_answer (answer r)) ≡ false → opened_bytes b r ≡ b
+    K : Outcome (Unit {0}) Registry → Type 0
+    K r = accepted (answered packing.done (answer r)) ≡ false → opened_bytes b r ≡ b

@@ -9,10 +9,8 @@ use lib.ListN.{length}
 use borrow.Author.Tests.{eqb-true}
 use Rattle.state.specs.Lengths.{Regular, Lists, Keys, Has, regular, lists, keys, lists_allowed, lists_length, keys_allowed, keys_length, regular_length, loop_back_length, requests_length, messages_length, responses_length}
 use Rattle.state.specs.Outcome.{Outcome}
-use Rattle.state.specs.Result.{Result}
 use Rattle.state.proofs.Tests.{by_cond, false_of, and_l, and_r}
-use Rattle.state.proofs.Calls.{not-whole}
-use Rattle.state.proofs.Outcomes as outcomes
+use Rattle.state.proofs.Outcomes.{not-whole}
 use Rattle.state.proofs.Disjoint.{disjoint}
 use Rattle.multi_cycle_list.specs.Lists as plain
 use Rattle.multi_cycle_list.specs.Nodes as nodes
@@ -26,21 +24,15 @@ use Rattle.loop_back.specs.Registry as loop_back
 use Rattle.loop_back.specs.Bytes as lb_bytes
 use Rattle.loop_back.specs.Steps as lb_steps
 use Rattle.loop_back.specs.Calls as lb
-use Rattle.loop_back.specs.declared.Answer as loop-back
-use Rattle.loop_back.specs.declared.Answer.TheVariants as loop-back-says
 use Rattle.rx_req.specs.Registry as requests
 use Rattle.rx_req.specs.Bytes as req_bytes
 use Rattle.rx_req.specs.Steps as req_steps
 use Rattle.rx_req.specs.Calls as req
-use Rattle.rx_req.specs.declared.Answer as request
-use Rattle.rx_req.specs.declared.Answer.TheVariants as request-says
 use Rattle.tx_queue.specs.TxQueue as responses
 use Rattle.tx_queue.specs.Bytes as txr_bytes
 use Rattle.tx_queue.specs.Steps as txr_steps
 use Rattle.tx_queue.specs.Steps.{reported}
 use Rattle.tx_queue.specs.Calls as txr
-use Rattle.tx_queue.specs.declared.Answer as transmit
-use Rattle.tx_queue.specs.declared.Answer.TheVariants as transmit-says
 use Rattle.tx_msg.specs.Registry as messages
 use Rattle.tx_msg.specs.Bytes as txm_bytes
 use Rattle.tx_msg.specs.Steps as txm_steps
@@ -79,10 +71,10 @@ module _ (b : List ℕ) (l : length b ≡ regular_length) where
   not-keys = not-sized _ _ _ _ (λ h q. keys-no (entries.k_max b) (entries.entries b) h (sym l ∙ q))
 
   list-call : {A : Type 0} (f : plain.Lists → Outcome A plain.Lists) → mcq.bytes b (mcq.on f b) ≡ b
-  list-call f = sym (outcomes.not-whole nodes.whole_b nodes.read mcq.over f b not-lists).1
+  list-call f = sym (not-whole nodes.whole_b nodes.read mcq.over f b not-lists).1
 
   key-call : {A : Type 0} (f : keyed.Keys → Outcome A keyed.Keys) → iq.bytes b (iq.on f b) ≡ b
-  key-call f = sym (outcomes.not-whole entries.whole_b entries.read laid.laid f b not-keys).1
+  key-call f = sym (not-whole entries.whole_b entries.read laid.laid f b not-keys).1
 
   list_open : (c e : ℕ) → mcq.bytes b (mcq.opening (length b) c e) ≡ b
   unfolding mcq.opening
@@ -113,19 +105,19 @@ module _ (b : List ℕ) (l : length b ≡ regular_length) where
   unfolding req_bytes.whole_b
   not-requests = not-long (length b) requests_length _ (λ q. omega (arith, l, q))
 
-  loop_back-call : (f : loop_back.Registry → Result loop-back.Answer loop_back.Registry) → lb.bytes b (lb.on f b) ≡ b
-  loop_back-call f = sym (not-whole lb_bytes.whole_b lb_bytes.read lb_bytes.laid (loop-back-says.Refused 1) f b not_loop_back).1
+  loop_back-call : {A : Type 0} (f : loop_back.Registry → Outcome A loop_back.Registry) → lb.bytes b (lb.on f b) ≡ b
+  loop_back-call f = sym (not-whole lb_bytes.whole_b lb_bytes.read lb_bytes.laid f b not_loop_back).1
 
-  request_call : (f : requests.Registry → Result request.Answer requests.Registry) → req.bytes b (req.on f b) ≡ b
-  request_call f = sym (not-whole req_bytes.whole_b tree.read tree.laid (request-says.Refused 1) f b not-requests).1
+  request_call : {A : Type 0} (f : requests.Registry → Outcome A requests.Registry) → req.bytes b (req.on f b) ≡ b
+  request_call f = sym (not-whole req_bytes.whole_b tree.read tree.laid f b not-requests).1
 
   loop_back_open : lb.opened_bytes b (lb.opening (length b)) ≡ b
   unfolding lb.opening
-  loop_back_open = by_cond (λ (r : Result loop-back.Answer loop_back.Registry). lb.opened_bytes b r ≡ b) (eqb (length b) loop_back_length) (λ q. absurd (omega (arith, l, eqb-true (length b) loop_back_length q))) (λ q. refl)
+  loop_back_open = by_cond (λ (r : Outcome (Unit {0}) loop_back.Registry). lb.opened_bytes b r ≡ b) (eqb (length b) loop_back_length) (λ q. absurd (omega (arith, l, eqb-true (length b) loop_back_length q))) (λ q. refl)
 
   request_open : req.opened_bytes b (req.opening (length b)) ≡ b
   unfolding req.opening
-  request_open = by_cond (λ (r : Result request.Answer requests.Registry). req.opened_bytes b r ≡ b) (eqb (length b) requests_length) (λ q. absurd (omega (arith, l, eqb-true (length b) requests_length q))) (λ q. refl)
+  request_open = by_cond (λ (r : Outcome (Unit {0}) requests.Registry). req.opened_bytes b r ≡ b) (eqb (length b) requests_length) (λ q. absurd (omega (arith, l, eqb-true (length b) requests_length q))) (λ q. refl)
 
   not-messages : txm_bytes.whole_b b ≡ false
   unfolding txm_bytes.whole_b
@@ -135,19 +127,19 @@ module _ (b : List ℕ) (l : length b ≡ regular_length) where
   unfolding txr_bytes.whole_b
   not-responses = not-long (length b) responses_length _ (λ q. omega (arith, l, q))
 
-  message_call : (f : messages.Registry → Result transmit.Answer messages.Registry) → txm.bytes b (txm.on f b) ≡ b
-  message_call f = sym (not-whole txm_bytes.whole_b txm_bytes.read txm_bytes.laid (transmit-says.Refused 1) f b not-messages).1
+  message_call : {A : Type 0} (f : messages.Registry → Outcome A messages.Registry) → txm.bytes b (txm.on f b) ≡ b
+  message_call f = sym (not-whole txm_bytes.whole_b txm_bytes.read txm_bytes.laid f b not-messages).1
 
-  response_call : (f : responses.TxQueue → Result transmit.Answer responses.TxQueue) → txr.bytes b (txr.on f b) ≡ b
-  response_call f = sym (not-whole txr_bytes.whole_b txr_bytes.read txr_bytes.laid (transmit-says.Refused 1) f b not-responses).1
+  response_call : {A : Type 0} (f : responses.TxQueue → Outcome A responses.TxQueue) → txr.bytes b (txr.on f b) ≡ b
+  response_call f = sym (not-whole txr_bytes.whole_b txr_bytes.read txr_bytes.laid f b not-responses).1
 
   message_open : txm.opened_bytes b (txm.opening (length b)) ≡ b
   unfolding txm.opening
-  message_open = by_cond (λ (r : Result transmit.Answer messages.Registry). txm.opened_bytes b r ≡ b) (eqb (length b) messages_length) (λ q. absurd (omega (arith, l, eqb-true (length b) messages_length q))) (λ q. refl)
+  message_open = by_cond (λ (r : Outcome (Unit {0}) messages.Registry). txm.opened_bytes b r ≡ b) (eqb (length b) messages_length) (λ q. absurd (omega (arith, l, eqb-true (length b) messages_length q))) (λ q. refl)
 
   response_open : txr.opened_bytes b (txr.opening (length b)) ≡ b
   unfolding txr.opening
-  response_open = by_cond (λ (r : Result transmit.Answer responses.TxQueue). txr.opened_bytes b r ≡ b) (eqb (length b) responses_length) (λ q. absurd (omega (arith, l, eqb-true (length b) responses_length q))) (λ q. refl)
+  response_open = by_cond (λ (r : Outcome (Unit {0}) responses.TxQueue). txr.opened_bytes b r ≡ b) (eqb (length b) responses_length) (λ q. absurd (omega (arith, l, eqb-true (length b) responses_length q))) (λ q. refl)
 
 -- a call on the bytes b: one that leaves them and is nothing to the registry, or one of the registry's own
 pub data On (b : List ℕ) : Call → Type 0 where

@@ -9,24 +9,25 @@ use native.Mathlib.Decide.{dec_lt}
 use lib.ListN.{length}
 use borrow.Author.Tests.{eq-eqb, le-ltb}
 use Rattle.state.specs.Lengths.{image_length}
-use Rattle.state.specs.Result as state
-use Rattle.state.specs.Result.{Result, left}
+use Rattle.std.specs.Prelude.{Option, None, Some, is_some, Result, Ok}
+use Rattle.state.specs.Outcome as state
+use Rattle.state.specs.Outcome.{Outcome, left}
+use Rattle.state.specs.declared.Refusal.{Refusal}
 use Rattle.state.proofs.Tests.{false_of, not-both}
 use Rattle.entry_tree.specs.Pairs.{has_subject}
 use Rattle.regular.specs.Registry.{Registry}
 use Rattle.regular.specs.Bytes.{read}
 use Rattle.regular.specs.Steps.{PollPop, poll_pop}
-use Rattle.regular.specs.declared.Answer.{Answer}
-use Rattle.regular.specs.declared.Answer.TheVariants.{AddSubject, RemoveSubjectRange, Nothing}
+use Rattle.regular.specs.declared.FilterUpdate.{FilterUpdate}
+use Rattle.regular.specs.declared.FilterUpdate.TheVariants.{AddSubject, RemoveSubjectRange}
 use Rattle.regular_valid.specs.Inner as moves
 use Rattle.regular_valid.specs.Moves.{Registered, activated}
-use Rattle.regular_valid.specs.Inner.{is_update, is_add_or_nothing, into}
 use Rattle.regular_valid.proofs.Poll as poll
 use Rattle.regular_valid.proofs.Poll.{due}
 use Rattle.regular_valid.proofs.Demand as demand
 use Rattle.filter_image.specs.Image as image
 use Rattle.filter_image.proofs.Laws.{length-image, holds-image, holds-past}
-use Rattle.gomxeli.specs.Answers.{regular_answer, packed, accepted}
+use Rattle.gomxeli.specs.Answers.{answered, updates, packed, accepted}
 use Rattle.gomxeli.specs.Calls.{RegPollPop}
 use Rattle.gomxeli.proofs.Fields.{accepted_of, first_of, second_of}
 use Rattle.regular_runs.specs.Runs.{Now, after, answer, polls, is_nothing, is_add, put_update, covers}
@@ -35,26 +36,34 @@ use Rattle.regular_runs.proofs.Kept.{Good, on-meaning, meaning-kept, regular-kep
 
 -- ---- the answers of a poll, and their numbers
 
-data Update : Answer → Type 0 where
-  adds : (x : ℕ) → x ≤ 8191 → Update (AddSubject x)
-  removes : (a b : ℕ) → a ≤ b → b ≤ 8191 → Update (RemoveSubjectRange a b)
-  nothing : Update Nothing
+-- what a poll answers
+abbrev Told : Type 0
+Told = Result (Option FilterUpdate) Refusal
 
-update_of : {m : Registry} {F : ℕ → Bool} {g : Registered} {r : Result Answer Registry} → poll.Polled m F g r → Update (state.answer r)
+-- the filter after a poll's answer
+abbrev into : Told → (ℕ → Bool) → ℕ → Bool
+into a F = moves.put (moves.handed PollPop a) F
+
+data Update : Told → Type 0 where
+  adds : (x : ℕ) → x ≤ 8191 → Update (Ok (Some (AddSubject x)))
+  removes : (a b : ℕ) → a ≤ b → b ≤ 8191 → Update (Ok (Some (RemoveSubjectRange a b)))
+  nothing : Update (Ok None)
+
+update_of : {m : Registry} {F : ℕ → Bool} {g : Registered} {r : Outcome (Option FilterUpdate) Registry} → poll.Polled m F g r → Update (state.answer r)
 update_of (poll.adds x n k j h) = adds x k
 update_of (poll.ends n j h) = nothing
 update_of (poll.removes a b n k l j c h) = removes a b k l
 
 -- the bytes n are an image of what i holds once the answer's update is in
-record Put (a : Answer) (i n : List ℕ) : Type 0 where
+record Put (a : Told) (i n : List ℕ) : Type 0 where
   long : length n ≡ image_length
   holds : (x : ℕ) → into a (image.holds i) x ≡ image.holds n x
 
-record Says (a : Answer) (n : ℕ) : Type 0 where
+record Says (a : Told) (n : ℕ) : Type 0 where
   taken : accepted n ≡ true
-  ends : is_nothing n ≡ not (is_update a)
-  moving : (is_add n || is_nothing n) ≡ is_add_or_nothing a
-  covering : (x : ℕ) → covers polls n x ≡ moves.covers a x
+  ends : is_nothing n ≡ not (is_some (moves.handed PollPop a))
+  moving : (g : Registered) → moves.moved PollPop a g ≡ cond (is_add n || is_nothing n) (activated g.waiting g.active) g
+  covering : (x : ℕ) → covers polls n x ≡ moves.covers (moves.handed PollPop a) x
   put : (i : List ℕ) → length i ≡ image_length → ((x : ℕ) → into a (image.holds i) x ≡ true → x ≤ 8191) → Put a i (put_update n i)
 
 -- the image of a set of subjects
@@ -65,7 +74,7 @@ image-all f top x =
       | no h ↦ false_of (f x) (λ t. omega (arith, top x t)) ∙ sym (holds-past f x (omega arith))
     ]
 
-put-image : (a : Answer) (i n : List ℕ) → n ≡ image.image_of (into a (image.holds i)) → ((x : ℕ) → into a (image.holds i) x ≡ true → x ≤ 8191) → Put a i n
+put-image : (a : Told) (i n : List ℕ) → n ≡ image.image_of (into a (image.holds i)) → ((x : ℕ) → into a (image.holds i) x ≡ true → x ≤ 8191) → Put a i n
 put-image a i n q top = rw q record { long = length-image (into a (image.holds i)); holds = image-all (into a (image.holds i)) top }
 
 module _ (x : ℕ) (k : x ≤ 8191) where
@@ -76,13 +85,13 @@ module _ (x : ℕ) (k : x ≤ 8191) where
   unfolding image.add_subject
   put-add i l = rw (add_of 1 x 0 (omega arith), first_of 0 1 x 0 (omega arith) (omega arith) (omega arith), le-ltb 8191 x k, eq-eqb (length i) image_length l) refl
 
-  says-add : Says (AddSubject x) Add
+  says-add : Says (Ok (Some (AddSubject x))) Add
   says-add = record {
     taken = accepted_of 1 x 0;
     ends = nothing_of 1 x 0 (omega arith);
-    moving = rw (add_of 1 x 0 (omega arith)) refl;
+    moving = λ g. rw (add_of 1 x 0 (omega arith)) refl;
     covering = λ y. rw (removal_of 1 x 0 (omega arith)) refl;
-    put = λ i l top. put-image (AddSubject x) i (put_update Add i) (put-add i l) top;
+    put = λ i l top. put-image (Ok (Some (AddSubject x))) i (put_update Add i) (put-add i l) top;
   }
 
 module _ (a b : ℕ) (k : a ≤ b) (l : b ≤ 8191) where
@@ -94,25 +103,25 @@ module _ (a b : ℕ) (k : a ≤ b) (l : b ≤ 8191) where
   put_removal i h =
       rw (add_of 2 a b (omega arith), removal_of 2 a b (omega arith), first_of 0 2 a b (omega arith) (omega arith) (omega arith), second_of 0 2 a b (omega arith) (omega arith) (omega arith), le-ltb 8191 a (omega arith), le-ltb 8191 b l, le-ltb b a k, eq-eqb (length i) image_length h) refl
 
-  says_removal : Says (RemoveSubjectRange a b) Removal
+  says_removal : Says (Ok (Some (RemoveSubjectRange a b))) Removal
   says_removal = record {
     taken = accepted_of 2 a b;
     ends = nothing_of 2 a b (omega arith);
-    moving = rw (add_of 2 a b (omega arith), nothing_of 2 a b (omega arith)) refl;
+    moving = λ g. rw (add_of 2 a b (omega arith), nothing_of 2 a b (omega arith)) refl;
     covering = λ y. rw (removal_of 2 a b (omega arith), first_of 0 2 a b (omega arith) (omega arith) (omega arith), second_of 0 2 a b (omega arith) (omega arith) (omega arith)) refl;
-    put = λ i h top. put-image (RemoveSubjectRange a b) i (put_update Removal i) (put_removal i h) top;
+    put = λ i h top. put-image (Ok (Some (RemoveSubjectRange a b))) i (put_update Removal i) (put_removal i h) top;
   }
 
-says_nothing : Says Nothing (packed 0 0 0 0)
+says_nothing : Says (Ok None) (packed 0 0 0 0)
 says_nothing = record {
   taken = accepted_of 0 0 0;
   ends = nothing_of 0 0 0 (omega arith);
-  moving = rw (add_of 0 0 0 (omega arith), nothing_of 0 0 0 (omega arith)) refl;
+  moving = λ g. rw (add_of 0 0 0 (omega arith), nothing_of 0 0 0 (omega arith)) refl;
   covering = λ y. rw (removal_of 0 0 0 (omega arith)) refl;
   put = λ i h top. rw (add_of 0 0 0 (omega arith), removal_of 0 0 0 (omega arith)) record { long = h; holds = λ x. refl };
 }
 
-says : {a : Answer} → Update a → Says a (regular_answer a)
+says : {a : Told} → Update a → Says a (answered updates a)
 says (adds x k) = says-add x k
 says (removes a b k l) = says_removal a b k l
 says nothing = says_nothing
@@ -126,7 +135,7 @@ module _ (w : Now) (g : Good w) where
   abbrev F : ℕ → Bool
   F = image.holds w.image
 
-  abbrev A : Answer
+  abbrev A : Told
   A = state.answer (poll_pop M)
 
   abbrev Next : Now
@@ -139,7 +148,7 @@ module _ (w : Now) (g : Good w) where
   put_in = said.put w.image g.long (demand.top (left M (poll_pop M)) (into A F) (moves.moved PollPop A w.registered) (demand.kept M F w.registered g.inv PollPop))
 
   same-moved : moves.moved PollPop A w.registered ≡ Next.registered
-  same-moved = ap (λ (t : Bool). cond t (activated w.registered.waiting w.registered.active) w.registered) (sym said.moving)
+  same-moved = said.moving w.registered
 
   pub poll-good : Good Next
   poll-good = regular-kept PollPop w g Next.image Next.registered put_in.long put_in.holds same-moved
@@ -151,11 +160,11 @@ module _ (w : Now) (g : Good w) where
   poll-clear x h = demand.clear M F w.registered g.inv PollPop x (sym (said.covering x) ∙ h)
 
   -- 'nothing' is said just if no update is handed out
-  at_end : is_nothing (answer RegPollPop w) ≡ true → A ≡ Nothing
+  at_end : is_nothing (answer RegPollPop w) ≡ true → A ≡ Ok None
   at_end h = elim (demand.poll-says M F w.registered g.inv) [ inl u ↦ not-both (sym h ∙ said.ends ∙ ap not u) | inr q ↦ q ]
 
-  before_end : is_nothing (answer RegPollPop w) ≡ false → is_update A ≡ true
-  before_end h = elim (demand.poll-says M F w.registered g.inv) [ inl u ↦ u | inr q ↦ not-both (sym (said.ends ∙ ap (λ (a : Answer). not (is_update a)) q) ∙ h) ]
+  before_end : is_nothing (answer RegPollPop w) ≡ false → is_some (moves.handed PollPop A) ≡ true
+  before_end h = elim (demand.poll-says M F w.registered g.inv) [ inl u ↦ u | inr q ↦ not-both (sym (said.ends ∙ ap (λ (a : Told). not (is_some (moves.handed PollPop a))) q) ∙ h) ]
 
   pub poll-exact : is_nothing (answer RegPollPop w) ≡ true → (x : ℕ) → image.holds Next.image x ≡ has_subject x (Next.registered.waiting ++ Next.registered.active)
   poll-exact h x =

@@ -1,69 +1,44 @@
--- The registry's answers to registering and removing: accepted, or a refusal whose number is not 0 and fits its field.
-use Prim.Native.Nat.{ℕ, ◌+◌, ◌<◌}
+-- What the packed answers to registering and removing tell: accepted or not, and so whether the two lists move.
+use Prim.Native.Nat.{ℕ}
 use mathlib.Core.Path.{◌≡◌, refl}
-use Rattle.std.specs.Prelude.{Option, None, Some}
-use mathlib.Core.Bool.{Bool, true, false, ◌||◌}
+use mathlib.Core.Bool.{Bool, false, cond}
 use native.Mathlib.Omega.{arith}
-use lib.Dec.{eqb, ltb}
+use Rattle.std.specs.Prelude.{Result, Ok, Err}
 use Rattle.state.specs.Seq.{to_nat}
-use Rattle.state.specs.Result.{Result, answer}
-use Rattle.state.proofs.Tests.{by_cond}
-use Rattle.entry_tree.specs.Pairs.{Place, has_entry, has_subject, place_of}
-use Rattle.regular.specs.Registry.{Registry}
-use Rattle.regular.specs.Steps.{Gaps, gaps, register, unregister, unregister_active, hub_push_start, push_next, hub_push_next}
-use Rattle.regular.specs.declared.Answer.{Answer}
-use Rattle.regular.specs.declared.Answer.TheVariants.{Refused, Accepted}
-use Rattle.regular_valid.specs.Inner.{is_accepted, into}
-use Rattle.gomxeli.specs.Answers.{regular_answer, accepted}
-use Rattle.gomxeli.proofs.Fields.{accepted_of, refused_of}
+use Rattle.state.specs.declared.Refusal as state
+use Rattle.state.specs.declared.Refusal.TheVariants.{NotWhole, EntryRange, Range, BadImage, Registered, NoSubjectSlot, Occupied, NotRegistered, SlotsFull, PickOpen, NoPick, BadFrame, Size, NotTaken, NoKey, ValueGone, NoCall}
+use Rattle.entry_tree.specs.Pairs.{pair}
+use Rattle.regular.specs.Steps.{Register, Unregister}
+use Rattle.regular_valid.specs.Inner.{moved}
+use Rattle.regular_valid.specs.Moves as lists
+use Rattle.regular_valid.specs.Moves.{joined, taken}
+use Rattle.gomxeli.specs.Answers.{answered, flag, refused, accepted}
+use Rattle.gomxeli.proofs.Fields.{number_of, accepted_of, refused_of}
 
-pub data Reply : Answer → Type 0 where
-  refused : (n : ℕ) → 0 < n → n < 256 → Reply (Refused n)
-  taken : (wake : Bool) → Reply (Accepted wake)
+-- no refusal's number is 0
+pub not_accepted : (r : state.Refusal) → accepted (refused r) ≡ false
+not_accepted NotWhole = refused_of 1 (omega arith) (omega arith)
+not_accepted EntryRange = refused_of 2 (omega arith) (omega arith)
+not_accepted Range = refused_of 3 (omega arith) (omega arith)
+not_accepted BadImage = refused_of 4 (omega arith) (omega arith)
+not_accepted Registered = refused_of 5 (omega arith) (omega arith)
+not_accepted NoSubjectSlot = refused_of 6 (omega arith) (omega arith)
+not_accepted Occupied = refused_of 7 (omega arith) (omega arith)
+not_accepted NotRegistered = refused_of 8 (omega arith) (omega arith)
+not_accepted SlotsFull = refused_of 9 (omega arith) (omega arith)
+not_accepted PickOpen = refused_of 10 (omega arith) (omega arith)
+not_accepted NoPick = refused_of 11 (omega arith) (omega arith)
+not_accepted BadFrame = refused_of 12 (omega arith) (omega arith)
+not_accepted Size = refused_of 13 (omega arith) (omega arith)
+not_accepted (NotTaken key value) = rw (number_of 14 0 key value (omega arith)) refl
+not_accepted NoKey = refused_of 15 (omega arith) (omega arith)
+not_accepted ValueGone = refused_of 16 (omega arith) (omega arith)
+not_accepted NoCall = refused_of 17 (omega arith) (omega arith)
 
-abbrev Replies : Result Answer Registry → Type 0
-Replies r = Reply (answer r)
+pub joins : (e x : ℕ) (r : lists.Registered) (a : Result Bool state.Refusal) → moved (Register e x) a r ≡ cond (accepted (answered flag a)) (joined (pair e x) r) r
+joins e x r (Ok wake) = rw (accepted_of (to_nat wake) 0 0) refl
+joins e x r (Err n) = rw (not_accepted n) refl
 
-pub register_reply : (e x : ℕ) (m : Registry) → Replies (register e x m)
-unfolding register
-register_reply e x m =
-    by_cond Replies (ltb 127 e) (λ h. refused 2 (omega arith) (omega arith)) (λ h.
-    by_cond Replies (ltb 8191 x) (λ h. refused 3 (omega arith) (omega arith)) (λ h.
-    by_cond Replies (has_entry e m.inactive || has_entry e m.active) (λ h. refused 5 (omega arith) (omega arith)) (λ h.
-    by_cond Replies (has_subject x m.inactive) (λ h. taken false) (λ h.
-    by_cond Replies (has_subject x m.active) (λ h. taken false) (λ h.
-    by_cond Replies (eqb m.slots 0) (λ h. refused 6 (omega arith) (omega arith)) (λ h. taken true))))))
-
-active_reply : (e : ℕ) (p : Place) (g : Gaps) (m : Registry) → Replies (unregister_active e p g m)
-active_reply e p g m = by_cond Replies (ltb 65535 (m.slots + g.more)) (λ h. refused 9 (omega arith) (omega arith)) (λ h. taken (ltb 0 g.more))
-
-pub unregister_reply : (e : ℕ) (m : Registry) → Replies (unregister e m)
-unfolding unregister
-unregister_reply e m =
-    by_cond Replies (ltb 127 e) (λ h. refused 2 (omega arith) (omega arith)) (λ h.
-    by_cond Replies (has_entry e m.inactive) (λ h. taken false) (λ h.
-    by_cond Replies (has_entry e m.active) (λ h. active_reply e (place_of e m.active) (gaps e (place_of e m.active) m.clean_up m.last_gap) m)
-    (λ h. refused 8 (omega arith) (omega arith))))
-
--- the number tells whether it was accepted
-pub same-accepted : {a : Answer} → Reply a → is_accepted a ≡ accepted (regular_answer a)
-same-accepted (refused n p h) = rw (refused_of n p h) refl
-same-accepted (taken wake) = rw (accepted_of (to_nat wake) 0 0) refl
-
--- and the filter stays
-pub no-update : {a : Answer} → Reply a → (F : ℕ → Bool) (x : ℕ) → into a F x ≡ F x
-no-update (refused n p h) F x = refl
-no-update (taken wake) F x = refl
-
--- nor does a walk change it
-pub start-quiet : (x : ℕ) (m : Registry) (F : ℕ → Bool) (y : ℕ) → into (answer (hub_push_start x m)) F y ≡ F y
-unfolding hub_push_start
-start-quiet x m F y = by_cond (λ (r : Result Answer Registry). into (answer r) F y ≡ F y) (ltb 8191 x) (λ h. refl) (λ h. refl)
-
-next-quiet : (o : Option ℕ) (m : Registry) (F : ℕ → Bool) (y : ℕ) → into (answer (push_next o m)) F y ≡ F y
-next-quiet None m F y = refl
-next-quiet (Some e) m F y = refl
-
-pub push_quiet : (m : Registry) (F : ℕ → Bool) (y : ℕ) → into (answer (hub_push_next m)) F y ≡ F y
-unfolding hub_push_next
-push_quiet m F y = next-quiet m.walk m F y
+pub leaves : (e : ℕ) (r : lists.Registered) (a : Result Bool state.Refusal) → moved (Unregister e) a r ≡ cond (accepted (answered flag a)) (taken e r) r
+leaves e r (Ok wake) = rw (accepted_of (to_nat wake) 0 0) refl
+leaves e r (Err n) = rw (not_accepted n) refl

@@ -6,27 +6,27 @@ use mathlib.Core.List.{List, [], ◌∷◌}
 use native.Mathlib.Omega.{arith}
 use lib.ListN.{length}
 use Rattle.state.specs.Seq.{to_nat}
-use Rattle.state.specs.Result as state
-use Rattle.state.specs.Result.{Result}
+use Rattle.std.specs.Prelude.{Result}
+use Rattle.state.specs.Outcome as state
+use Rattle.state.specs.Outcome.{Outcome}
+use Rattle.state.specs.declared.Refusal.{Refusal}
 use Rattle.state.proofs.Tests.{by_cond, not-both}
 use Rattle.entry_tree.specs.Pairs.{pair, has_subject}
 use Rattle.regular.specs.Registry.{Registry}
 use Rattle.regular.specs.Bytes.{read}
-use Rattle.regular.specs.Steps.{Call, step, Register, Unregister, HubPushStart, HubPushNext}
+use Rattle.regular.specs.Steps.{Call, Answer, step, Register, Unregister, HubPushStart, HubPushNext}
 use Rattle.regular.specs.Calls.{on, bytes, opened_bytes, opening}
-use Rattle.regular.specs.declared.Answer.{Answer}
 use Rattle.regular_valid.specs.Inner as moves
 use Rattle.regular_valid.specs.Moves.{Registered, joined, taken}
-use Rattle.regular_valid.specs.Inner.{is_accepted}
 use Rattle.regular_valid.proofs.Poll.{due}
 use Rattle.regular_valid.proofs.Demand as demand
 use Rattle.filter_image.specs.Image as image
-use Rattle.gomxeli.specs.Answers.{regular_answer, accepted}
+use Rattle.gomxeli.specs.Answers.{answered, flag, accepted}
 use Rattle.gomxeli.specs.Calls as calls
 use Rattle.gomxeli.specs.Calls.{does, RegPollPop}
 use Rattle.regular_runs.specs.Runs.{Part, Now, answer, after, part, covers, is_opened, is_nothing, is_add, is_removal, run, begin, NotOpened, Clear, updates, says_nothing, entries, Holds, Demand3}
 use Rattle.regular_runs.proofs.Others as others
-use Rattle.regular_runs.proofs.Replies.{Reply, register_reply, unregister_reply, same-accepted, no-update, start-quiet, push_quiet}
+use Rattle.regular_runs.proofs.Replies.{joins, leaves}
 use Rattle.regular_runs.proofs.Kept.{Good, state-long, good-begin, on-meaning, regular-kept, left-kept, refused-opening}
 use Rattle.regular_runs.proofs.Polls.{poll-good, poll-taken, poll-clear, poll-exact, poll-less}
 
@@ -37,17 +37,19 @@ record Kept (c : calls.Call) (w : Now) : Type 0 where
   good : Good (after c w)
   clear : (x : ℕ) → covers (part c) (answer c w) x ≡ true → has_subject x w.registered.active ≡ false
 
--- registering and removing: r are the lists where it is accepted
-asked-good : (w : Now) → Good w → (k : Call) (r : Registered) → Reply (state.answer (step k (read w.state)))
-    → moves.moved k (state.answer (step k (read w.state))) w.registered ≡ cond (is_accepted (state.answer (step k (read w.state)))) r w.registered
+-- registering and removing, which hand out no update: r are the lists where it is accepted
+asked-good : (w : Now) → Good w → (k : Call) (fields : Answer k → ℕ) (r : Registered)
+    → ((a : Result (Answer k) Refusal) → moves.moved k a w.registered ≡ cond (accepted (answered fields a)) r w.registered)
+    → ((a : Result (Answer k) Refusal) (x : ℕ) → moves.put (moves.handed k a) (image.holds w.image) x ≡ image.holds w.image x)
     → Good (record {
       state = bytes w.state (on (step k) w.state);
       image = w.image;
-      registered = cond (accepted (regular_answer (state.answer (on (step k) w.state)))) r w.registered;
+      registered = cond (accepted (answered fields (state.answer (on (step k) w.state)))) r w.registered;
     })
-asked-good w g k r p q =
-    regular-kept k w g w.image (cond (accepted (regular_answer (state.answer (on (step k) w.state)))) r w.registered) g.long (no-update p (image.holds w.image))
-    (q ∙ ap (λ (t : Bool). cond t r w.registered) (same-accepted p ∙ ap (λ (o : Result Answer Registry). accepted (regular_answer (state.answer o))) (sym (on-meaning k w g))))
+asked-good w g k fields r q u =
+    let a = state.answer (step k (read w.state)) in
+    regular-kept k w g w.image (cond (accepted (answered fields (state.answer (on (step k) w.state)))) r w.registered) g.long (u a)
+    (q a ∙ ap (λ (o : Outcome (Answer k) Registry). cond (accepted (answered fields (state.answer o))) r w.registered) (sym (on-meaning k w g)))
 
 kept_by : (w : Now) → Good w → (c : calls.Call) → others.On w.state c → is_opened (part c) (answer c w) ≡ false → Kept c w
 kept_by w g _ (others.leaves c p q) h = record {
@@ -59,20 +61,20 @@ kept_by w g _ (others.opening n) h = record {
   clear = λ x t. not-both (sym t);
 }
 kept_by w g _ (others.register e x) h = record {
-  good = asked-good w g (Register e x) (joined (pair e x) w.registered) (register_reply e x (read w.state)) refl;
+  good = asked-good w g (Register e x) flag (joined (pair e x) w.registered) (joins e x w.registered) (λ a y. refl);
   clear = λ y t. not-both (sym t);
 }
 kept_by w g _ (others.unregister e) h = record {
-  good = asked-good w g (Unregister e) (taken e w.registered) (unregister_reply e (read w.state)) refl;
+  good = asked-good w g (Unregister e) flag (taken e w.registered) (leaves e w.registered) (λ a y. refl);
   clear = λ x t. not-both (sym t);
 }
 kept_by w g _ others.poll h = record { good = poll-good w g; clear = poll-clear w g }
 kept_by w g _ (others.start x) h = record {
-  good = regular-kept (HubPushStart x) w g w.image w.registered g.long (start-quiet x (read w.state) (image.holds w.image)) refl;
+  good = regular-kept (HubPushStart x) w g w.image w.registered g.long (λ y. refl) refl;
   clear = λ y t. not-both (sym t);
 }
 kept_by w g _ others.next h = record {
-  good = regular-kept HubPushNext w g w.image w.registered g.long (push_quiet (read w.state) (image.holds w.image)) refl;
+  good = regular-kept HubPushNext w g w.image w.registered g.long (λ y. refl) refl;
   clear = λ x t. not-both (sym t);
 }
 

@@ -6,18 +6,17 @@ use mathlib.Core.List.{List, [], ◌∷◌, map}
 use native.Mathlib.Omega.{arith}
 use lib.ListN.{length}
 use Rattle.state.specs.Seq.{to_nat}
-use Rattle.state.specs.Result as state
-use Rattle.state.specs.Result.{Result, left}
+use Rattle.state.specs.Outcome as state
+use Rattle.state.specs.Outcome.{left}
 use Rattle.multi_cycle_list.specs.Lists as queues
 use Rattle.regular.specs.Registry.{Registry, fresh}
 use Rattle.regular.specs.Bytes.{read}
-use Rattle.regular.specs.Steps.{Call, step, Register, Unregister, HubPushStart, PollPop, HubPushNext, register, unregister, steps, poll_pop}
+use Rattle.regular.specs.Steps.{Call, Answer, step, Register, Unregister, HubPushStart, PollPop, HubPushNext, register, unregister, steps, poll_pop}
 use Rattle.regular.specs.Calls.{on, bytes}
-use Rattle.regular.specs.declared.Answer.{Answer}
 use Rattle.regular_valid.specs.Moves.{Registered, lists}
-use Rattle.gomxeli.specs.Answers.{packed, regular_answer}
+use Rattle.gomxeli.specs.Answers.{packed, answered, flag, updates as poll_fields, pushed}
 use Rattle.gomxeli.specs.Calls as exports
-use Rattle.gomxeli.specs.Calls.{does, changes, Outcome, RegUnregister, RegHubPushStart, RegRegister, RegPollPop, RegHubPushNext}
+use Rattle.gomxeli.specs.Calls.{does, writes, Outcome, RegUnregister, RegHubPushStart, RegRegister, RegPollPop, RegHubPushNext}
 use Rattle.regular_runs.specs.Runs.{Now, answer, after, moved, part, is_opened, is_nothing, is_add, is_removal, run, begin, updates, says_nothing}
 use Rattle.regular_runs.specs.Example.{calls, Full, Reached}
 use Rattle.regular_runs.proofs.Kept.{Good, begin-means, good-begin, on-meaning, meaning-kept}
@@ -37,8 +36,16 @@ exported (HubPushStart x) = RegHubPushStart x
 exported PollPop = RegPollPop
 exported HubPushNext = RegHubPushNext
 
+-- how an answer packs
+abbrev fields : (k : Call) → Answer k → ℕ
+fields (Register e x) = flag
+fields (Unregister e) = flag
+fields (HubPushStart x) = flag
+fields PollPop = poll_fields
+fields HubPushNext = pushed
+
 abbrev number : Call → Registry → ℕ
-number k m = regular_answer (state.answer (step k m))
+number k m = answered (fields k) (state.answer (step k m))
 
 abbrev plain_after : Call → Plain → Plain
 plain_after k p = record { meaning = left p.meaning (step k p.meaning); registered = moved (part (exported k)) (number k p.meaning) p.registered }
@@ -52,7 +59,7 @@ record At (w : Now) (p : Plain) : Type 0 where
   means : read w.state ≡ p.meaning
   same : w.registered ≡ p.registered
 
-does-step : (k : Call) (b : List ℕ) → does (exported k) b ≡ changes regular_answer bytes b (on (step k) b)
+does-step : (k : Call) (b : List ℕ) → does (exported k) b ≡ writes (fields k) bytes b (on (step k) b)
 does-step (Register e x) b = refl
 does-step (Unregister e) b = refl
 does-step (HubPushStart x) b = refl
@@ -67,7 +74,7 @@ not_opened PollPop a = refl
 not_opened HubPushNext a = refl
 
 answer-is : (k : Call) (w : Now) → Good w → answer (exported k) w ≡ number k (read w.state)
-answer-is k w g = ap (λ (o : Outcome). o.answer) (does-step k w.state) ∙ ap (λ (r : Result Answer Registry). regular_answer (state.answer r)) (on-meaning k w g)
+answer-is k w g = ap (λ (o : Outcome). o.answer) (does-step k w.state) ∙ ap (λ (r : state.Outcome (Answer k) Registry). answered (fields k) (state.answer r)) (on-meaning k w g)
 
 meaning-is : (k : Call) (w : Now) → Good w → read (after (exported k) w).state ≡ left (read w.state) (step k (read w.state))
 meaning-is k w g = ap (λ (o : Outcome). read o.bytes) (does-step k w.state) ∙ meaning-kept k w g

@@ -7,18 +7,20 @@ use mathlib.Core.List.{List, [], ◌∷◌, ◌++◌}
 use native.Mathlib.Omega.{arith}
 use lib.ListN.{length}
 use Rattle.state.specs.Seq.{to_nat}
-use Rattle.state.specs.Result.{Result, answer, left}
+use Rattle.std.specs.Prelude.{Option, None, Some, is_some, Result, Ok, Err}
+use Rattle.state.specs.Outcome.{Outcome, answer, left}
+use Rattle.state.specs.declared.Refusal.{Refusal}
 use Rattle.state.proofs.Tests.{not-both, same_test}
 use Rattle.multi_cycle_list.specs.Lists as lists
 use Rattle.entry_tree.specs.Pairs.{Pair, count, is_entry, on_subject, has_subject, without}
 use Rattle.entry_tree.proofs.Changes.{without-count, without-count-other, without-length}
 use Rattle.regular.specs.Registry.{Registry, fresh}
 use Rattle.regular.specs.Steps.{Call, PollPop, step, poll_pop}
-use Rattle.regular.specs.declared.Answer.{Answer}
-use Rattle.regular.specs.declared.Answer.TheVariants.{Refused, AddSubject, Nothing}
+use Rattle.regular.specs.declared.FilterUpdate.{FilterUpdate}
+use Rattle.regular.specs.declared.FilterUpdate.TheVariants.{AddSubject}
 use Rattle.regular_valid.specs.Moves as moves
 use Rattle.regular_valid.specs.Moves.{Registered}
-use Rattle.regular_valid.specs.Inner.{moved, into, covers, is_update}
+use Rattle.regular_valid.specs.Inner.{handed, moved, put, covers}
 use Rattle.entry_tree.proofs.Count.{same, diff, compare_eq, T_true, any-true, true-any, false-any, count-append, count-all}
 use Rattle.regular_valid.proofs.Queue.{count-first, count-nil}
 use Rattle.multi_cycle_list.proofs.Lists.{count-other}
@@ -70,11 +72,11 @@ module _ (m : Registry) (F : ℕ → Bool) (g : Registered) (i : Inv m F g) wher
   same_filter F' h = subst (λ (f : ℕ → Bool). Inv m f g) (λ j x. h x j) i
 
   -- a call keeps the invariant: its update goes into the filter, and its answer moves the two lists
-  pub kept : (k : Call) → Inv (left m (step k m)) (into (answer (step k m)) F) (moved k (answer (step k m)) g)
+  pub kept : (k : Call) → Inv (left m (step k m)) (put (handed k (answer (step k m))) F) (moved k (answer (step k m)) g)
   kept k = (step_kept k m F g i).inv
 
   -- no removal handed out covers the subject of an active pair
-  pub clear : (k : Call) (x : ℕ) → covers (answer (step k m)) x ≡ true → has_subject x g.active ≡ false
+  pub clear : (k : Call) (x : ℕ) → covers (handed k (answer (step k m))) x ≡ true → has_subject x g.active ≡ false
   clear k x h = false-any (on_subject x) g.active ((step_kept k m F g i).clear x h)
 
   -- what is left to hand out: marks, the flag and the pairs that wait
@@ -105,47 +107,49 @@ module _ (m : Registry) (F : ℕ → Bool) (g : Registered) (i : Inv m F g) wher
 -- ---- polls
 
 module _ (m : Registry) (F : ℕ → Bool) (g : Registered) where
-  never : {r : Result Answer Registry} → Polled m F g r → (n : ℕ) → answer r ≡ Refused n → ⊥
+  never : {r : Outcome (Option FilterUpdate) Registry} → Polled m F g r → (n : Refusal) → answer r ≡ Err n → ⊥
   never (adds x k r j h) n q = let z : ◌≡◌ {A = ℕ} 0 1 = cc in omega arith
   never (ends k j h) n q = let z : ◌≡◌ {A = ℕ} 0 1 = cc in omega arith
   never (removes a b k r s j c h) n q = let z : ◌≡◌ {A = ℕ} 0 1 = cc in omega arith
 
-  says : {r : Result Answer Registry} → Polled m F g r → (is_update (answer r) ≡ true) ⊎ (answer r ≡ Nothing)
+  says : {r : Outcome (Option FilterUpdate) Registry} → Polled m F g r → (is_some (handed PollPop (answer r)) ≡ true) ⊎ (answer r ≡ Ok None)
   says (adds x k r j h) = inl refl
   says (ends k j h) = inr refl
   says (removes a b k r s j c h) = inl refl
 
-  add_low : {r : Result Answer Registry} → Polled m F g r → (x : ℕ) → answer r ≡ AddSubject x → x ≤ 8191
+  add_low : {r : Outcome (Option FilterUpdate) Registry} → Polled m F g r → (x : ℕ) → answer r ≡ Ok (Some (AddSubject x)) → x ≤ 8191
   add_low (adds y k r j h) x q = let z : y ≡ x = cc in omega arith
   add_low (ends k j h) x q = absurd (let z : ◌≡◌ {A = ℕ} 0 1 = cc in omega arith)
   add_low (removes a b k r s j c h) x q = absurd (let z : ◌≡◌ {A = ℕ} 0 1 = cc in omega arith)
 
-  less : {r : Result Answer Registry} → Polled m F g r → is_update (answer r) ≡ true → due (left m r) < due m
+  less : {r : Outcome (Option FilterUpdate) Registry} → Polled m F g r → is_some (handed PollPop (answer r)) ≡ true → due (left m r) < due m
   less (adds x k r j h) q = h
   less (ends k j h) q = not-both (sym q)
   less (removes a b k r s j c h) q = h
 
-  none_left : {r : Result Answer Registry} → Polled m F g r → answer r ≡ Nothing → due (left m r) ≡ 0
+  none_left : {r : Outcome (Option FilterUpdate) Registry} → Polled m F g r → answer r ≡ Ok None → due (left m r) ≡ 0
   none_left (adds x k r j h) q = absurd (let z : ◌≡◌ {A = ℕ} 0 1 = cc in omega arith)
   none_left (ends k j h) q = h
   none_left (removes a b k r s j c h) q = absurd (let z : ◌≡◌ {A = ℕ} 0 1 = cc in omega arith)
 
   module _ (i : Inv m F g) where
+    abbrev A : Result (Option FilterUpdate) Refusal
+    A = answer (poll_pop m)
+
     -- a poll is never refused: it hands out an update or says 'nothing'
-    pub poll-taken : (n : ℕ) → answer (poll_pop m) ≡ Refused n → ⊥
+    pub poll-taken : (n : Refusal) → A ≡ Err n → ⊥
     poll-taken = never (polled m F g i)
 
-    pub poll-says : (is_update (answer (poll_pop m)) ≡ true) ⊎ (answer (poll_pop m) ≡ Nothing)
+    pub poll-says : (is_some (handed PollPop A) ≡ true) ⊎ (A ≡ Ok None)
     poll-says = says (polled m F g i)
 
     -- an update leaves less to hand out, and 'nothing' leaves nothing
-    pub poll-less : is_update (answer (poll_pop m)) ≡ true → due (left m (poll_pop m)) < due m
+    pub poll-less : is_some (handed PollPop A) ≡ true → due (left m (poll_pop m)) < due m
     poll-less = less (polled m F g i)
 
-    pub poll-nothing : answer (poll_pop m) ≡ Nothing → due (left m (poll_pop m)) ≡ 0
+    pub poll-nothing : A ≡ Ok None → due (left m (poll_pop m)) ≡ 0
     poll-nothing = none_left (polled m F g i)
 
     -- a poll that says 'nothing': the filter then holds just the subjects of the two lists
-    pub at-nothing : answer (poll_pop m) ≡ Nothing → (x : ℕ)
-        → into (answer (poll_pop m)) F x ≡ has_subject x ((moved PollPop (answer (poll_pop m)) g).waiting ++ (moved PollPop (answer (poll_pop m)) g).active)
-    at-nothing q = exact (left m (poll_pop m)) (into (answer (poll_pop m)) F) (moved PollPop (answer (poll_pop m)) g) (kept m F g i PollPop) (poll-nothing q)
+    pub at-nothing : A ≡ Ok None → (x : ℕ) → put (handed PollPop A) F x ≡ has_subject x ((moved PollPop A g).waiting ++ (moved PollPop A g).active)
+    at-nothing q = exact (left m (poll_pop m)) (put (handed PollPop A) F) (moved PollPop A g) (kept m F g i PollPop) (poll-nothing q)

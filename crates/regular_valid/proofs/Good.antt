@@ -13,7 +13,7 @@ use Rattle.entry_tree.specs.Pairs.{Pair, pair, Place, count, is_entry, on_subjec
 use Rattle.entry_tree.proofs.Changes.{without-none}
 use Rattle.entry_tree.proofs.Walking.{find-rest}
 use Rattle.regular.specs.Steps.{new_mark, head_gaps, is_head, gaps}
-use Rattle.regular.specs.declared.Answer.TheVariants.{AddSubject, RemoveSubjectRange}
+use Rattle.regular.specs.declared.FilterUpdate.TheVariants.{AddSubject, RemoveSubjectRange}
 use Rattle.regular_valid.specs.Inner.{into}
 use Rattle.entry_tree.proofs.Count.{same, diff, below, above, compare_eq, compare_le, eqb-self, count-self, count-subject, first-only, count-off, not_there}
 use Rattle.multi_cycle_list.proofs.Lists.{count-append, count_kept}

@@ -10,8 +10,9 @@ use lib.ListN.{length, get_or, replicate, length-replicate}
 use borrow.Author.Tests.{ltb-false, eqb-true, eq-eqb, ne_eqb}
 use Rattle.state.proofs.Filled.{zero-bytes}
 use Rattle.state.specs.Lengths.{regular_length}
-use Rattle.state.specs.Result.{refuse, done, Bytes}
-use Rattle.state.proofs.Calls.{means_of}
+use Rattle.state.specs.Outcome.{refuse, done, Bytes}
+use Rattle.state.specs.declared.Refusal.TheVariants.{NotWhole, Range}
+use Rattle.state.proofs.Outcomes.{means_of}
 use Rattle.multi_cycle_list.specs.Lists as plain
 use Rattle.multi_cycle_list.specs.Nodes as nodes
 use Rattle.multi_cycle_list.specs.Laid as lists
@@ -28,8 +29,6 @@ use Rattle.regular.specs.Bytes.{active_part, inactive_part, queue_part, read, wh
 use Rattle.regular.specs.Steps.{step}
 use Rattle.regular.specs.Calls.{opening}
 use Rattle.regular_valid.specs.Means.{Valid, Sized, RegularMeans}
-use Rattle.regular.specs.declared.Answer.{Answer}
-use Rattle.regular.specs.declared.Answer.TheVariants.{Refused, Done}
 use Rattle.regular.proofs.Parts.{join, Joined, split, active-is, inactive-is, queue-is, tail_at, long}
 use Rattle.regular.proofs.Grounds.{of_sizes}
 use Rattle.regular.proofs.Testing.{conditions}
@@ -138,7 +137,7 @@ module _ (m : Registry) (b : List ℕ) (y : Bytes b) (f : Valid m) (l : length b
 read-valid : (b : List ℕ) → Bytes b → whole_b b ≡ true → Valid (read b)
 read-valid b y h = whole_valid (read b) (read_whole b y h)
 
-open_inv : (p q : Bool) (m₀ : Registry) (a : Answer) (m : Registry) → cond p (cond q (refuse (Refused 3)) (done Done m₀)) (refuse (Refused 1)) ≡ done a m → (p ≡ true) × ((q ≡ false) × (m₀ ≡ m))
+open_inv : (p q : Bool) (m₀ : Registry) (a : Unit {0}) (m : Registry) → cond p (cond q (refuse Range) (done tt m₀)) (refuse NotWhole) ≡ done a m → (p ≡ true) × ((q ≡ false) × (m₀ ≡ m))
 open_inv true false m₀ a m h = (refl, (refl, cc))
 open_inv true true m₀ a m h = absurd (let z : ◌≡◌ {A = ℕ} 0 1 = cc in omega arith)
 open_inv false q m₀ a m h = absurd (let z : ◌≡◌ {A = ℕ} 0 1 = cc in omega arith)
@@ -146,7 +145,7 @@ open_inv false q m₀ a m h = absurd (let z : ◌≡◌ {A = ℕ} 0 1 = cc in om
 pub fresh-valid : (n : ℕ) → n ≤ 65535 → Valid (fresh n)
 fresh-valid n h = whole_valid (fresh n) (record { facts = fresh-facts n; room = h })
 
-opened : (b n : ℕ) (a : Answer) (m : Registry) → opening b n ≡ done a m → whole_b (laid m (replicate b 0)) ≡ true
+opened : (b n : ℕ) (a : Unit {0}) (m : Registry) → opening b n ≡ done a m → whole_b (laid m (replicate b 0)) ≡ true
 unfolding opening
 opened b n a m q =
     let i = open_inv (eqb b regular_length) (ltb 65535 n) (fresh n) a m q in
@@ -157,5 +156,5 @@ pub means : RegularMeans
 means =
     record {
       opened = opened;
-      meaning = means_of whole_b read laid (Refused 1) Valid Sized laid_bytes laid_whole read_laid step read-valid (λ b h. (parts b h).bytes) laid_read step_valid (λ k m n f z. z);
+      meaning = means_of whole_b read laid Valid Sized laid_bytes laid_whole read_laid step read-valid (λ b h. (parts b h).bytes) laid_read step_valid (λ k m n f z. z);
     }

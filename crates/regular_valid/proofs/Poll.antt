@@ -8,16 +8,15 @@ use lib.Dec.{leb}
 use lib.ListN.{length}
 use borrow.Author.Tests.{leb-true}
 use Rattle.state.specs.Seq.{to_nat}
-use Rattle.state.specs.Result.{Result, done}
+use Rattle.std.specs.Prelude.{Option, None, Some, Ok, Err}
+use Rattle.state.specs.Outcome.{Outcome, done}
 use Rattle.state.proofs.Tests.{not-both, and_l, and_r}
 use Rattle.entry_tree.specs.Pairs.{Pair, count, is_entry, on_subject, without, place_of, past}
 use Rattle.entry_tree.proofs.Changes.{inserted-count, without-none}
 use Rattle.regular.specs.Registry.{Registry}
-use Rattle.regular.specs.Steps.{PollPop, Step, with_clean_up, becomes_active, activates, step_by, inner_step, on_step, steps, poll_pop}
-use Rattle.regular.specs.declared.Answer.{Answer}
-use Rattle.regular.specs.declared.Answer.TheVariants.{AddSubject, RemoveSubjectRange, Nothing}
-use Rattle.regular.specs.declared.Popped as popped
-use Rattle.regular.specs.declared.Popped.TheVariants as pops
+use Rattle.regular.specs.Steps.{PollPop, Says, call_again, Step, with_clean_up, becomes_active, activates, step_by, inner_step, on_step, steps, poll_pop}
+use Rattle.regular.specs.declared.FilterUpdate.{FilterUpdate}
+use Rattle.regular.specs.declared.FilterUpdate.TheVariants.{AddSubject, RemoveSubjectRange}
 use Rattle.regular_valid.specs.Moves as moves
 use Rattle.regular_valid.specs.Moves.{Registered, activated}
 use Rattle.regular_valid.specs.Inner.{into}
@@ -52,11 +51,10 @@ next-step m e x q c l a r =
     ∙ ap (λ (y : ℕ). activates e y q m) r
 
 -- what a filter makes of the step's answer
-abbrev pub pop_into : popped.Popped → (ℕ → Bool) → ℕ → Bool
-pop_into (pops.AddSubject x) F = into (AddSubject x) F
-pop_into (pops.RemoveSubjectRange a b) F = into (RemoveSubjectRange a b) F
-pop_into pops.CallAgain F = F
-pop_into pops.Nothing F = F
+abbrev pub pop_into : Says → (ℕ → Bool) → ℕ → Bool
+pop_into (Some (Ok update)) F = into update F
+pop_into (Some (Err again)) F = F
+pop_into None F = F
 
 inner_by : (m : Registry) (F : ℕ → Bool) → Sound m F → (marks : List ℕ) (f : Bool) (q : List ℕ) → m.clean_up ≡ marks → m.last_gap ≡ f → m.activation ≡ q
     → Sound (step_by marks f q m).then (pop_into (step_by marks f q m).says F)
@@ -82,14 +80,14 @@ slots-by [] false (e ∷ q) m = refl
 pub inner_slots : (m : Registry) → (inner_step m).then.slots ≡ m.slots
 inner_slots m = slots-by m.clean_up m.last_gap m.activation m
 
-again_by : (marks : List ℕ) (f : Bool) (q : List ℕ) (m : Registry) → (step_by marks f q m).says ≡ pops.CallAgain → suc (length (step_by marks f q m).then.activation) ≡ length q
+again_by : (marks : List ℕ) (f : Bool) (q : List ℕ) (m : Registry) → (step_by marks f q m).says ≡ call_again → suc (length (step_by marks f q m).then.activation) ≡ length q
 again_by (e ∷ marks) f q m h = absurd (let z : ◌≡◌ {A = ℕ} 0 1 = cc in omega arith)
 again_by [] true q m h = absurd (let z : ◌≡◌ {A = ℕ} 0 1 = cc in omega arith)
 again_by [] false [] m h = absurd (let z : ◌≡◌ {A = ℕ} 0 1 = cc in omega arith)
 again_by [] false (e ∷ q) m h = refl
 
 -- a step that says 'call again' takes an entry off the activation queue
-pub again-shorter : (m : Registry) → (inner_step m).says ≡ pops.CallAgain → suc (length (inner_step m).then.activation) ≡ length m.activation
+pub again-shorter : (m : Registry) → (inner_step m).says ≡ call_again → suc (length (inner_step m).then.activation) ≡ length m.activation
 again-shorter m h = again_by m.clean_up m.last_gap m.activation m h
 
 -- so it does not matter how many steps a poll may take at most
@@ -100,12 +98,11 @@ steps_fuel (suc n) zero m h j = absurd (omega (arith, j))
 steps_fuel (suc n) (suc k) m h j =
     go (inner_step m).says refl (λ q. steps_fuel n k (inner_step m).then (omega (arith, again-shorter m q)) (omega (arith, again-shorter m q)))
   where
-    go : (s : popped.Popped) → (inner_step m).says ≡ s → ((inner_step m).says ≡ pops.CallAgain → steps n (inner_step m).then ≡ steps k (inner_step m).then)
+    go : (s : Says) → (inner_step m).says ≡ s → ((inner_step m).says ≡ call_again → steps n (inner_step m).then ≡ steps k (inner_step m).then)
         → on_step s (inner_step m).then (steps n (inner_step m).then) ≡ on_step s (inner_step m).then (steps k (inner_step m).then)
-    go (pops.AddSubject x) q r = refl
-    go (pops.RemoveSubjectRange a b) q r = refl
-    go pops.CallAgain q r = r q
-    go pops.Nothing q r = refl
+    go (Some (Ok update)) q r = refl
+    go (Some (Err again)) q r = r q
+    go None q r = refl
 
 -- ---- what is left to hand out
 
@@ -113,16 +110,16 @@ abbrev pub due : Registry → ℕ
 due m = length m.clean_up + to_nat m.last_gap + length m.activation
 
 -- what a poll with nothing to clean up comes to, where h are the two lists after it
-data Quiet (d : ℕ) (F : ℕ → Bool) (h : Registered) : Result Answer Registry → Type 0 where
-  brings : (x : ℕ) (n : Registry) → x ≤ 8191 → Inv n (into (AddSubject x) F) h → due n < d → Quiet d F h (done (AddSubject x) n)
-  stops : (n : Registry) → Inv n F h → due n ≡ 0 → Quiet d F h (done Nothing n)
+data Quiet (d : ℕ) (F : ℕ → Bool) (h : Registered) : Outcome (Option FilterUpdate) Registry → Type 0 where
+  brings : (x : ℕ) (n : Registry) → x ≤ 8191 → Inv n (into (AddSubject x) F) h → due n < d → Quiet d F h (done (Some (AddSubject x)) n)
+  stops : (n : Registry) → Inv n F h → due n ≡ 0 → Quiet d F h (done None n)
 
 -- what a poll comes to
-pub data Polled (m : Registry) (F : ℕ → Bool) (g : Registered) : Result Answer Registry → Type 0 where
-  adds : (x : ℕ) (n : Registry) → x ≤ 8191 → Inv n (into (AddSubject x) F) (activated g.waiting g.active) → due n < due m → Polled m F g (done (AddSubject x) n)
-  ends : (n : Registry) → Inv n F (activated g.waiting g.active) → due n ≡ 0 → Polled m F g (done Nothing n)
+pub data Polled (m : Registry) (F : ℕ → Bool) (g : Registered) : Outcome (Option FilterUpdate) Registry → Type 0 where
+  adds : (x : ℕ) (n : Registry) → x ≤ 8191 → Inv n (into (AddSubject x) F) (activated g.waiting g.active) → due n < due m → Polled m F g (done (Some (AddSubject x)) n)
+  ends : (n : Registry) → Inv n F (activated g.waiting g.active) → due n ≡ 0 → Polled m F g (done None n)
   removes : (a b : ℕ) (n : Registry) → a ≤ b → b ≤ 8191 → Inv n (into (RemoveSubjectRange a b) F) g → ((x : ℕ) → a ≤ x → x ≤ b → count (on_subject x) g.active ≡ 0) → due n < due m
-      → Polled m F g (done (RemoveSubjectRange a b) n)
+      → Polled m F g (done (Some (RemoveSubjectRange a b)) n)
 
 steps-is : (n : ℕ) (m : Registry) (s : Step) → inner_step m ≡ s → steps (suc n) m ≡ on_step s.says s.then (steps n s.then)
 unfolding steps
@@ -154,7 +151,7 @@ quiet (suc n) m F g i c l h d b = go g.waiting refl (λ m' g' i' c' l' h' b'. qu
         → Quiet d F (activated w g.active) (steps (suc n) m)
     go [] q rec =
         let a : m.activation ≡ [] = sym i.queue ∙ ap (map entry_of) q in
-        rw (steps-is n m (record { says = pops.Nothing; then = m }) (step-next m c l [] a))
+        rw (steps-is n m (record { says = None; then = m }) (step-next m c l [] a))
         (stops m (record { sound = i.sound; room = i.room; queue = sym a; waiting = rw q at i.waiting; active = i.active }) (rw (c, l, a) refl))
     go (p ∷ w) q rec =
         let x : ℕ = p.subject in
@@ -193,14 +190,14 @@ loud m F g i [] true c l =
     (rw (c, l) (omega arith)))
 loud m F g i [] false c l = go (quiet (suc (length m.activation)) m F g i c l (omega arith) (due m) (omega arith))
   where
-    go : {r : Result Answer Registry} → Quiet (due m) F (activated g.waiting g.active) r → Polled m F g r
+    go : {r : Outcome (Option FilterUpdate) Registry} → Quiet (due m) F (activated g.waiting g.active) r → Polled m F g r
     go (brings x n k j h) = adds x n k j h
     go (stops n j h) = ends n j h
 
 pub polled : (m : Registry) (F : ℕ → Bool) (g : Registered) → Inv m F g → Polled m F g (poll_pop m)
 polled m F g i = loud m F g i m.clean_up m.last_gap refl refl
 
-poll-by : (m : Registry) (F : ℕ → Bool) (g : Registered) {r : Result Answer Registry} → Polled m F g r → Kept PollPop m F g r
+poll-by : (m : Registry) (F : ℕ → Bool) (g : Registered) {r : Outcome (Option FilterUpdate) Registry} → Polled m F g r → Kept PollPop m F g r
 poll-by m F g (adds x n k j h) = record { inv = j; clear = λ y q. not-both (sym q) }
 poll-by m F g (ends n j h) = record { inv = j; clear = λ y q. not-both (sym q) }
 poll-by m F g (removes a b n k l j c h) = record { inv = j; clear = λ y q. c y (leb-true a y (and_l (leb a y) (leb y b) q)) (leb-true y b (and_r (leb a y) (leb y b) q)) }

@@ -17,7 +17,7 @@ use Rattle.entry_tree.specs.Walks.{moved_past}
 use Rattle.entry_tree.proofs.Walking.{find-after, find-rest, next_in, none-some, past_in}
 use Rattle.regular.specs.Registry.{Registry, fresh}
 use Rattle.regular.specs.Steps.{new_mark, head_gaps, is_head, gaps, goes_on, waits, joins, leaves, leaves_inactive, with_clean_up, becomes_active, with_walk}
-use Rattle.regular.specs.declared.Answer.TheVariants.{AddSubject, RemoveSubjectRange}
+use Rattle.regular.specs.declared.FilterUpdate.TheVariants.{AddSubject, RemoveSubjectRange}
 use Rattle.regular_valid.specs.Inner.{into}
 use Rattle.entry_tree.proofs.Count.{same, diff, below, above, compare_eq, compare_le, T_true, any-true, true-any, count-self, not_there}
 use Rattle.regular_valid.proofs.Queue.{count-first, count-le, count-back, count-joined, count_maybe, count_maybe_other, count-nil}

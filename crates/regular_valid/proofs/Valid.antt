@@ -2,7 +2,7 @@
 use Prim.Native.Nat.{ℕ, ◌≤◌}
 use mathlib.Core.Bool.{Bool}
 use native.Mathlib.Omega.{arith}
-use Rattle.state.specs.Result.{left}
+use Rattle.state.specs.Outcome.{left}
 use Rattle.regular.specs.Registry.{Registry}
 use Rattle.regular.specs.Steps.{Call, Register, Unregister, HubPushStart, PollPop, HubPushNext, step, inner_step}
 use Rattle.regular_valid.specs.Means.{Valid}

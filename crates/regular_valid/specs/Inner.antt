@@ -1,80 +1,61 @@
 -- How a call of the regular registry and its answer move *waiting*, *active* and the filter, for the laws call by call. No contract and no
 -- theorem cites this: `Demand3` says the same of the exported calls and their answers' numbers.
-use Rattle.std.specs.Prelude.{ℕ, Bool, true, false, cond, not, ◌&&◌, ◌||◌, eqb, leb}
+use Rattle.std.specs.Prelude.{ℕ, Bool, false, not, ◌&&◌, ◌||◌, eqb, leb, Option, None, Some, Result, Ok, Err}
+use Rattle.state.specs.declared.Refusal.{Refusal}
 use Rattle.entry_tree.specs.Pairs.{pair}
-use Rattle.regular.specs.Steps.{Call, Register, Unregister, HubPushStart, PollPop, HubPushNext}
-use Rattle.regular.specs.declared.Answer.{Answer}
-use Rattle.regular.specs.declared.Answer.TheVariants.{Refused, Done, Accepted, AddSubject, RemoveSubjectRange, Nothing, Started, Pushed, NotPushed}
+use Rattle.regular.specs.Steps.{Call, Register, Unregister, HubPushStart, PollPop, HubPushNext, Answer}
+use Rattle.regular.specs.declared.FilterUpdate.{FilterUpdate}
+use Rattle.regular.specs.declared.FilterUpdate.TheVariants.{AddSubject, RemoveSubjectRange}
 use Rattle.regular_valid.specs.Moves.{Registered, joined, taken, activated}
 
-abbrev pub is_accepted : Answer → Bool
-is_accepted (Refused n) = false
-is_accepted Done = false
-is_accepted (Accepted wake) = true
-is_accepted (AddSubject x) = false
-is_accepted (RemoveSubjectRange a b) = false
-is_accepted Nothing = false
-is_accepted (Started b) = false
-is_accepted (Pushed e b) = false
-is_accepted NotPushed = false
+-- the update that a call's answer hands out
+abbrev pub handed : (k : Call) → Result (Answer k) Refusal → Option FilterUpdate
+handed (Register e x) a = None
+handed (Unregister e) a = None
+handed PollPop (Ok update) = update
+handed PollPop (Err refusal) = None
+handed (HubPushStart x) a = None
+handed HubPushNext a = None
 
--- an add or 'nothing'
-abbrev pub is_add_or_nothing : Answer → Bool
-is_add_or_nothing (Refused n) = false
-is_add_or_nothing Done = false
-is_add_or_nothing (Accepted wake) = false
-is_add_or_nothing (AddSubject x) = true
-is_add_or_nothing (RemoveSubjectRange a b) = false
-is_add_or_nothing Nothing = true
-is_add_or_nothing (Started b) = false
-is_add_or_nothing (Pushed e b) = false
-is_add_or_nothing NotPushed = false
+-- ---- the two lists
 
--- an update
-abbrev pub is_update : Answer → Bool
-is_update (Refused n) = false
-is_update Done = false
-is_update (Accepted wake) = false
-is_update (AddSubject x) = true
-is_update (RemoveSubjectRange a b) = true
-is_update Nothing = false
-is_update (Started b) = false
-is_update (Pushed e b) = false
-is_update NotPushed = false
+-- a poll's answer moves waiting pairs, unless it is a removal
+abbrev pub polled : Option FilterUpdate → Registered → Registered
+polled (Some (RemoveSubjectRange a b)) r = r
+polled (Some (AddSubject x)) r = activated r.waiting r.active
+polled None r = activated r.waiting r.active
 
 -- the two lists after a call, by its answer alone; nothing else moves a pair
-abbrev pub moved : Call → Answer → Registered → Registered
-moved (Register e x) a r = cond (is_accepted a) (joined (pair e x) r) r
-moved (Unregister e) a r = cond (is_accepted a) (taken e r) r
-moved PollPop a r = cond (is_add_or_nothing a) (activated r.waiting r.active) r
+abbrev pub moved : (k : Call) → Result (Answer k) Refusal → Registered → Registered
+moved (Register e x) (Ok wake) r = joined (pair e x) r
+moved (Register e x) (Err refusal) r = r
+moved (Unregister e) (Ok wake) r = taken e r
+moved (Unregister e) (Err refusal) r = r
+moved PollPop (Ok update) r = polled update r
+moved PollPop (Err refusal) r = r
 moved (HubPushStart x) a r = r
 moved HubPushNext a r = r
 
 -- ---- the filter: the subjects that pass
 
--- the answer hands out an add of x; a removal that covers x
-abbrev pub adds : Answer → ℕ → Bool
-adds (Refused n) x = false
-adds Done x = false
-adds (Accepted wake) x = false
+-- an update adds x; it removes a range that covers x
+abbrev pub adds : FilterUpdate → ℕ → Bool
 adds (AddSubject y) x = eqb x y
 adds (RemoveSubjectRange a b) x = false
-adds Nothing x = false
-adds (Started b) x = false
-adds (Pushed e b) x = false
-adds NotPushed x = false
 
-abbrev pub covers : Answer → ℕ → Bool
-covers (Refused n) x = false
-covers Done x = false
-covers (Accepted wake) x = false
-covers (AddSubject y) x = false
-covers (RemoveSubjectRange a b) x = leb a x && leb x b
-covers Nothing x = false
-covers (Started b) x = false
-covers (Pushed e b) x = false
-covers NotPushed x = false
+abbrev pub removes : FilterUpdate → ℕ → Bool
+removes (AddSubject y) x = false
+removes (RemoveSubjectRange a b) x = leb a x && leb x b
 
--- the filter after an answer's update is put into it
-abbrev pub into : Answer → (ℕ → Bool) → ℕ → Bool
-into a F x = adds a x || (not (covers a x) && F x)
+-- the filter after an update is put into it
+abbrev pub into : FilterUpdate → (ℕ → Bool) → ℕ → Bool
+into u F x = adds u x || (not (removes u x) && F x)
+
+-- and after one that may be missing
+abbrev pub put : Option FilterUpdate → (ℕ → Bool) → ℕ → Bool
+put (Some u) F = into u F
+put None F = F
+
+abbrev pub covers : Option FilterUpdate → ℕ → Bool
+covers (Some u) x = removes u x
+covers None x = false

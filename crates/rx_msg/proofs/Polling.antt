@@ -8,8 +8,9 @@ use native.Mathlib.Omega.{arith}
 use lib.Dec.{eqb}
 use lib.ListN.{length}
 use borrow.Author.Tests.{eq-eqb, ne_eqb}
-use Rattle.state.specs.Result.{done, Bytes}
-use Rattle.state.proofs.Calls.{Ends}
+use Rattle.std.specs.Prelude.{Option, None, Some, Ok}
+use Rattle.state.specs.Outcome.{done, Bytes}
+use Rattle.state.proofs.Outcomes.{Ends, laid_out}
 use Rattle.multi_cycle_list.specs.Lists.{Lists, first, row}
 use Rattle.multi_cycle_list.specs.Nodes as nodes
 use Rattle.entry_tree.specs.Pairs.{pair, place_of}
@@ -18,22 +19,19 @@ use Rattle.entry_tree.proofs.Changes.{without-length, inserted-length}
 use Rattle.entry_tree.proofs.Reading.{read_length}
 use Rattle.regular.specs.Registry.{Registry}
 use Rattle.regular.specs.Bytes.{inactive_part, queue_part, whole_b, read, laid}
-use Rattle.regular.specs.Steps.{Step, step_by, inner_step, on_step, steps, poll_pop}
+use Rattle.regular.specs.Steps.{Says, call_again, Step, step_by, inner_step, on_step, steps, poll_pop}
 use Rattle.regular.specs.Calls.{on}
 use Rattle.regular_valid.specs.Means.{Valid}
-use Rattle.regular.specs.declared.Answer.{Answer}
-use Rattle.regular.specs.declared.Answer.TheVariants.{AddSubject, RemoveSubjectRange, Nothing}
-use Rattle.regular.specs.declared.Popped as popped
-use Rattle.regular.specs.declared.Popped.TheVariants as pops
+use Rattle.regular.specs.declared.FilterUpdate.{FilterUpdate}
 use Rattle.regular_valid.proofs.Facts.{at_most}
 use Rattle.regular_valid.proofs.Valid.{Whole, whole_valid, inner_whole}
 use Rattle.regular_valid.proofs.Reading.{parts, read-facts, read_whole}
 use Rattle.regular_valid.proofs.Poll.{again-shorter, step-next}
 use Rattle.regular_valid.proofs.Round.{queue-read, laid_read, laid-again}
 use Rattle.regular_valid.proofs.Mean.{read_laid, laid_whole, laid_bytes}
+use Rattle.regular_change.specs.Inner.{CleanedUp}
 use Rattle.regular_activation.specs.Inner.{again, Again, Activated}
 use Rattle.regular_activation.proofs.Taking.{whole-steps}
-use Rattle.rx_msg.proofs.Calls.{changes}
 
 -- ---- the queues' fronts
 
@@ -50,11 +48,11 @@ pub flag-clear : (v : ℕ) → v ≡ 0 → not (eqb v 0) ≡ false
 flag-clear v q = rw (eq-eqb v 0 q)
 
 -- nothing is left
-pub still_ends : (s : List ℕ) → Bytes s → whole_b s ≡ true → (read s).clean_up ≡ [] → (read s).last_gap ≡ false → (read s).activation ≡ []
-    → (pops.Nothing ≡ (inner_step (read s)).says) × (s ≡ laid (inner_step (read s)).then s)
-still_ends s y h c l a =
-    let q = step-next (read s) c l [] a in
-    (ap (λ (t : Step). t.says) (sym q), sym (laid_read s y h) ∙ ap (λ (t : Step). laid t.then s) (sym q))
+pub still_ends : (s : List ℕ) → Bytes s → whole_b s ≡ true → CleanedUp (read s) → (read s).activation ≡ [] → (r : Says) → r ≡ None
+    → (r ≡ (inner_step (read s)).says) × (s ≡ laid (inner_step (read s)).then s)
+still_ends s y h c a r z =
+    let q = step-next (read s) c.marks c.flag [] a in
+    (z ∙ ap (λ (t : Step). t.says) (sym q), sym (laid_read s y h) ∙ ap (λ (t : Step). laid t.then s) (sym q))
 
 -- ---- one step
 
@@ -94,16 +92,16 @@ grows-again : (m : Registry) (k : ℕ) → Grows m (again k m)
 grows-again m zero = record { inactive = omega arith; active = omega arith; walk = refl; flag = inr refl }
 grows-again m (suc k) = grows-more m (again k m) (grows-again m k)
 
-again-few : (m : Registry) (k : ℕ) → ((i : ℕ) → i < k → (inner_step (again i m)).says ≡ pops.CallAgain) → length (again k m).activation ≤ length m.activation
+again-few : (m : Registry) (k : ℕ) → ((i : ℕ) → i < k → (inner_step (again i m)).says ≡ call_again) → length (again k m).activation ≤ length m.activation
 again-few m zero f = omega arith
 again-few m (suc k) f = omega (arith, again-few m k (λ i h. f i (omega arith)), again-shorter (again k m) (f k (omega arith)))
 
 -- a step that says 'call again' finds and leaves nothing to clean up
-again-idle : (marks : List ℕ) (f : Bool) (q : List ℕ) (m : Registry) → m.clean_up ≡ marks → m.last_gap ≡ f → (step_by marks f q m).says ≡ pops.CallAgain → ((step_by marks f q m).then.clean_up ≡ []) × ((step_by marks f q m).then.last_gap ≡ false)
+again-idle : (marks : List ℕ) (f : Bool) (q : List ℕ) (m : Registry) → m.clean_up ≡ marks → m.last_gap ≡ f → (step_by marks f q m).says ≡ call_again → CleanedUp (step_by marks f q m).then
 again-idle (e ∷ marks) f q m c l s = absurd (let z : ◌≡◌ {A = ℕ} 0 1 = cc in omega arith)
 again-idle [] true q m c l s = absurd (let z : ◌≡◌ {A = ℕ} 0 1 = cc in omega arith)
 again-idle [] false [] m c l s = absurd (let z : ◌≡◌ {A = ℕ} 0 1 = cc in omega arith)
-again-idle [] false (e ∷ q) m c l s = (c, l)
+again-idle [] false (e ∷ q) m c l s = record { marks = c; flag = l }
 
 -- ---- the loop
 
@@ -123,16 +121,16 @@ pub same-long : (b s : List ℕ) → Polling b s → length s ≡ length b
 same-long b s p = (parts s p.whole).bytes ∙ sym (parts b p.begun).bytes
 
 -- what a poll comes to, by its first step
-abbrev Polls : Registry → popped.Popped → Type 0
+abbrev Polls : Registry → Says → Type 0
 Polls m p = poll_pop m ≡ on_step p (inner_step m).then (steps (length m.activation) (inner_step m).then)
 
-poll-by : (m : Registry) (p : popped.Popped) → (inner_step m).says ≡ p → Polls m p
+poll-by : (m : Registry) (p : Says) → (inner_step m).says ≡ p → Polls m p
 unfolding poll_pop steps
-poll-by m p q = ap (λ (x : popped.Popped). on_step x (inner_step m).then (steps (length m.activation) (inner_step m).then)) q
+poll-by m p q = ap (λ (x : Says). on_step x (inner_step m).then (steps (length m.activation) (inner_step m).then)) q
 
-poll-again : (m : Registry) → (inner_step m).says ≡ pops.CallAgain → poll_pop m ≡ poll_pop (inner_step m).then
+poll-again : (m : Registry) → (inner_step m).says ≡ call_again → poll_pop m ≡ poll_pop (inner_step m).then
 unfolding poll_pop
-poll-again m q = poll-by m pops.CallAgain q ∙ ap (λ (n : ℕ). steps n (inner_step m).then) (sym (again-shorter m q))
+poll-again m q = poll-by m call_again q ∙ ap (λ (n : ℕ). steps n (inner_step m).then) (sym (again-shorter m q))
 
 module _ (b s : List ℕ) (p : Polling b s) (t : List ℕ) (q : t ≡ laid (inner_step (read s)).then s) where
   abbrev m : Registry
@@ -160,8 +158,8 @@ module _ (b s : List ℕ) (p : Polling b s) (t : List ℕ) (q : t ≡ laid (inne
       let a' = at_most n next.facts in
       q ∙ ap (laid n) p.over ∙ laid-again m n b (parts b p.begun).bytes (omega arith) (omega arith) p.few g.active (omega arith) g.walk g.flag
 
-  module _ (r : popped.Popped) (e : r ≡ (inner_step (read s)).says) where
-    pub goes_on : r ≡ pops.CallAgain → Polling b t
+  module _ (r : Says) (e : r ≡ (inner_step (read s)).says) where
+    pub goes_on : r ≡ call_again → Polling b t
     goes_on k = record {
       begun = p.begun;
       bytes = subst Bytes (sym q) (laid_bytes n s p.bytes valid long);
@@ -171,30 +169,27 @@ module _ (b s : List ℕ) (p : Polling b s) (t : List ℕ) (q : t ≡ laid (inne
       few = omega (arith, ap (λ (x : Registry). length x.inactive) read_next, (grows m).inactive, p.few);
     }
 
-    pub shorter : r ≡ pops.CallAgain → length (read t).activation < length (read s).activation
+    pub shorter : r ≡ call_again → length (read t).activation < length (read s).activation
     shorter k = omega (arith, again-shorter m (sym e ∙ k), ap (λ (x : Registry). length x.activation) read_next)
 
     -- nothing is to clean up then
-    pub idle_then : r ≡ pops.CallAgain → ((read t).clean_up ≡ []) × ((read t).last_gap ≡ false)
+    pub idle_then : r ≡ call_again → CleanedUp (read t)
     idle_then k =
         let z = again-idle m.clean_up m.last_gap m.activation m refl refl (sym e ∙ k) in
-        (ap (λ (x : Registry). x.clean_up) read_next ∙ z.0, ap (λ (x : Registry). x.last_gap) read_next ∙ z.1)
+        record { marks = ap (λ (x : Registry). x.clean_up) read_next ∙ z.marks; flag = ap (λ (x : Registry). x.last_gap) read_next ∙ z.flag }
 
-    ends : (a : Answer) → poll_pop m ≡ done a n → Ends laid b (on poll_pop b) a t
-    ends a z = changes b p.begun poll_pop a n t (p.rest ∙ z) over-next
+    ends : (a : Option FilterUpdate) → poll_pop m ≡ done a n → Ends laid b (on poll_pop b) (Ok a) t
+    ends a z = laid_out whole_b read laid poll_pop b p.begun a n t (p.rest ∙ z) over-next
 
-    pub ends-add : (x : ℕ) → r ≡ pops.AddSubject x → Ends laid b (on poll_pop b) (AddSubject x) t
-    ends-add x k = ends (AddSubject x) (poll-by m (pops.AddSubject x) (sym e ∙ k))
+    pub ends-update : (u : FilterUpdate) → r ≡ Some (Ok u) → Ends laid b (on poll_pop b) (Ok (Some u)) t
+    ends-update u k = ends (Some u) (poll-by m (Some (Ok u)) (sym e ∙ k))
 
-    pub ends-remove : (x z : ℕ) → r ≡ pops.RemoveSubjectRange x z → Ends laid b (on poll_pop b) (RemoveSubjectRange x z) t
-    ends-remove x z k = ends (RemoveSubjectRange x z) (poll-by m (pops.RemoveSubjectRange x z) (sym e ∙ k))
-
-    pub ends-nothing : r ≡ pops.Nothing → Ends laid b (on poll_pop b) Nothing t
-    ends-nothing k = ends Nothing (poll-by m pops.Nothing (sym e ∙ k))
+    pub ends-nothing : r ≡ None → Ends laid b (on poll_pop b) (Ok None) t
+    ends-nothing k = ends None (poll-by m None (sym e ∙ k))
 
 -- ---- many steps at once
 
-again-poll : (m : Registry) (k : ℕ) → ((i : ℕ) → i < k → (inner_step (again i m)).says ≡ pops.CallAgain) → poll_pop m ≡ poll_pop (again k m)
+again-poll : (m : Registry) (k : ℕ) → ((i : ℕ) → i < k → (inner_step (again i m)).says ≡ call_again) → poll_pop m ≡ poll_pop (again k m)
 again-poll m zero f = refl
 again-poll m (suc k) f = again-poll m k (λ i h. f i (omega arith)) ∙ poll-again (again k m) (f k (omega arith))
 

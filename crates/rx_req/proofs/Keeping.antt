@@ -3,7 +3,7 @@ use Prim.Native.Nat.{ℕ, zero-le}
 use mathlib.Core.Bool.{Bool}
 use lib.Dec.{ltb}
 use borrow.Author.Tests.{ltb-false}
-use Rattle.state.specs.Result.{Result, left}
+use Rattle.state.specs.Outcome.{Outcome, left}
 use Rattle.state.proofs.Tests.{by_cond}
 use Rattle.entry_tree.specs.Pairs.{pair, on_subject, has_entry, has_subject, inserted, without}
 use Rattle.entry_tree.proofs.Count.{any_false}
@@ -12,10 +12,9 @@ use Rattle.entry_tree.proofs.Once.{inserted-once, inserted_rising, without-once,
 use Rattle.rx_req.specs.Registry.{Registry}
 use Rattle.rx_req.specs.Steps.{Call, Register, Unregister, PollPush, step, register, unregister, poll_push}
 use Rattle.rx_req.specs.Means.{Valid}
-use Rattle.rx_req.specs.declared.Answer.{Answer}
 use Rattle.rx_req.proofs.Testing.{conditions, of_conditions}
 
-abbrev Keeps : Registry → Result Answer Registry → Type 0
+abbrev Keeps : {A : Type 0} → Registry → Outcome A Registry → Type 0
 Keeps m o = Valid (left m o)
 
 register-valid : (e x : ℕ) (m : Registry) → Valid m → Keeps m (register e x m)

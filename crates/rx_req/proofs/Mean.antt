@@ -8,8 +8,9 @@ use lib.Dec.{eqb}
 use lib.ListN.{length, replicate, length-replicate}
 use borrow.Author.Tests.{eqb-true}
 use Rattle.state.specs.Lengths.{requests_length}
-use Rattle.state.specs.Result.{done, Bytes}
-use Rattle.state.proofs.Calls.{opened-is, means_of}
+use Rattle.state.specs.Outcome.{done, Bytes}
+use Rattle.state.specs.declared.Refusal.TheVariants.{NotWhole}
+use Rattle.state.proofs.Outcomes.{opened-is, means_of}
 use Rattle.state.proofs.Filled.{zero-bytes}
 use Rattle.entry_tree.specs.Places.{read, laid}
 use Rattle.entry_tree.proofs.Laid as tree
@@ -19,8 +20,6 @@ use Rattle.rx_req.specs.Bytes.{whole_b}
 use Rattle.rx_req.specs.Steps.{step}
 use Rattle.rx_req.specs.Calls.{opening}
 use Rattle.rx_req.specs.Means.{Valid, Sized, RequestsMeans}
-use Rattle.rx_req.specs.declared.Answer.{Answer}
-use Rattle.rx_req.specs.declared.Answer.TheVariants.{Refused, Done}
 use Rattle.rx_req.proofs.Testing.{conditions, of_conditions, known, sized}
 use Rattle.rx_req.proofs.Keeping.{step_valid}
 
@@ -40,10 +39,10 @@ module _ (m : Registry) (b : List ℕ) (y : Bytes b) (f : Valid m) (l : length b
 fresh-valid : Valid fresh
 fresh-valid = of_conditions [] (record { range = refl; once = λ e. omega arith; rises = refl })
 
-opened : (b : ℕ) (a : Answer) (m : Registry) → opening b ≡ done a m → whole_b (laid m (replicate b 0)) ≡ true
+opened : (b : ℕ) (a : Unit {0}) (m : Registry) → opening b ≡ done a m → whole_b (laid m (replicate b 0)) ≡ true
 unfolding opening
 opened b a m q =
-    let i = opened-is (eqb b requests_length) Done (Refused 1) fresh a m q in
+    let i = opened-is (eqb b requests_length) tt NotWhole fresh a m q in
     subst (λ (x : Registry). whole_b (laid x (replicate b 0)) ≡ true) i.1
     (laid_whole fresh (replicate b 0) (zero-bytes b) fresh-valid (length-replicate {A = ℕ} b 0 ∙ eqb-true b requests_length i.0))
 
@@ -51,5 +50,6 @@ pub means : RequestsMeans
 means =
     record {
       opened = opened;
-      meaning = means_of whole_b read laid (Refused 1) Valid Sized laid_bytes laid_whole read_laid step (λ b y h. (known b h).valid) (λ b h. (known b h).tree.len) (λ b y h. let k = known b h in tree.laid_read b k.tree.len k.tree.few y) step_valid (λ k m n f z. z);
+      meaning = means_of whole_b read laid Valid Sized laid_bytes laid_whole read_laid step
+          (λ b y h. (known b h).valid) (λ b h. (known b h).tree.len) (λ b y h. let t = (known b h).tree in tree.laid_read b t.len t.few y) step_valid (λ k m n f z. z);
     }

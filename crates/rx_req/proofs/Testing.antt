@@ -1,12 +1,11 @@
 -- The code's test comes to *whole* as specs/Bytes.antt has it, and what whole bytes are.
-use Prim.Native.Nat.{ℕ, ◌<◌, ◌≤◌}
+use Prim.Native.Nat.{ℕ, ◌≤◌}
 use mathlib.Core.Path.{◌≡◌}
-use mathlib.Core.Logic.{◌≢◌}
 use mathlib.Core.List.{List}
 use mathlib.Core.Bool.{true, false, ◌&&◌}
 use lib.Dec.{eqb, leb}
 use lib.ListN.{length}
-use borrow.Author.Tests.{leb-true, lt-leb, le-leb, eqb-true, eq-eqb, ne_eqb}
+use borrow.Author.Tests.{leb-true, le-leb, eqb-true, eq-eqb}
 use Rattle.state.specs.Seq.{all_b}
 use Rattle.state.proofs.Tests.{and_l, and_r}
 use Rattle.entry_tree.specs.Pairs.{in_range, once_b, rising}
@@ -39,15 +38,7 @@ of_conditions m c = rw (c.range, of_once m c.once, c.rises)
 -- ---- whole bytes
 
 module _ (s : List ℕ) where
-  pub no_length : length s ≢ tree_length → whole_b s ≡ false
-  unfolding whole_b
-  no_length l = rw (ne_eqb (length s) tree_length l)
-
   module _ (l : length s ≡ tree_length) where
-    pub no_size : 128 < size s → whole_b s ≡ false
-    unfolding whole_b
-    no_size h = rw (eq-eqb (length s) tree_length l, lt-leb (size s) 128 h)
-
     pub sized : size s ≤ 128 → whole_b s ≡ valid_b (read s)
     unfolding whole_b
     sized h = rw (eq-eqb (length s) tree_length l, le-leb (size s) 128 h)

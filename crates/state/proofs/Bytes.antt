@@ -4,7 +4,7 @@ use mathlib.Core.List.{List, [], ◌∷◌, ◌++◌}
 use native.Mathlib.Omega.{arith}
 use lib.ListN.{take, drop}
 use lib.Seq.{get_or-drop}
-use Rattle.state.specs.Result.{Bytes}
+use Rattle.state.specs.Outcome.{Bytes}
 
 bytes_take : (n : ℕ) (l : List ℕ) → Bytes l → Bytes (take n l)
 bytes_take zero l y i = omega arith

@@ -2,7 +2,6 @@ pub mod Tests
 pub mod Seq
 pub mod Numbers
 pub mod Disjoint
-pub mod Calls
 pub mod Filled
 pub mod Bytes
 pub mod Outcomes

@@ -8,8 +8,7 @@ use lib.ListN.{length}
 use Rattle.std.specs.Prelude.{Result, Ok, Err}
 use Rattle.state.specs.declared.Refusal.{Refusal}
 use Rattle.state.specs.declared.Refusal.TheVariants.{NotWhole}
-use Rattle.state.specs.Outcome.{Outcome, refuse, done, called, answer, bytes, left, Means}
-use Rattle.state.specs.Result.{Bytes}
+use Rattle.state.specs.Outcome.{Outcome, refuse, done, called, answer, bytes, left, Means, Bytes}
 
 -- a call's end: its answer and the bytes that it leaves
 abbrev pub Ends : {A M : Type 0} → (M → List ℕ → List ℕ) → List ℕ → Outcome A M → Result A Refusal → List ℕ → Type 0

@@ -1,5 +1,4 @@
 pub mod Seq
 pub mod Lengths
-pub mod Result
 pub mod Refusals
 pub mod Outcome

@@ -1,7 +1,6 @@
 -- The form that all calls on state bytes share. A kind of state gives a test `whole` of its bytes, `read`, their plain meaning,
 -- and `laid`, the bytes of a meaning over the old ones; a call is a function on meanings.
-use Rattle.std.specs.Prelude.{ℕ, ◌≡◌, Bool, true, cond, List, length, Result, Ok, Err}
-use Rattle.state.specs.Result.{Bytes}
+use Rattle.std.specs.Prelude.{ℕ, ◌<◌, ◌≡◌, Bool, true, cond, List, length, get_or, Result, Ok, Err}
 use Rattle.state.specs.declared.Refusal.{Refusal}
 use Rattle.state.specs.declared.Refusal.TheVariants.{NotWhole}
 
@@ -27,6 +26,10 @@ bytes laid b (done a m) = laid m b
 abbrev pub left : {A M : Type 0} → M → Outcome A M → M
 left m (refuse r) = m
 left m (done a n) = n
+
+-- the numbers are bytes, as those of every lent slice are
+abbrev pub Bytes : List ℕ → Type 0
+Bytes b = (i : ℕ) → get_or b i 0 < 256
 
 -- What is proved of each kind. `Valid` is wholeness as document 01 words it, on the plain meaning; `Sized m n`, that m has n bytes.
 -- `A k` is the type of what the call k answers.

@@ -129,14 +129,14 @@ pub fn lengths_disjoint()
     ensures { Disjoint }
 {}
 
-// Every byte becomes v.
+// Every byte becomes v. It stays a function beside std's method: a must-fail edit breaks it, and each edit is kept.
 pub fn fill(s: &mut [u8], v: u8)
     ensures { s.new ≡ replicate (length s.old) v }
 {
     s.fill(v);
 }
 
-// `to` becomes `from`, of the same length.
+// `to` becomes `from`, of the same length. It stays for the same reason.
 pub fn copy(from: &[u8], to: &mut [u8])
     requires { length from.now ≡ length to.old }
     ensures { to.new ≡ from.now }

@@ -1,23 +1,21 @@
 -- What each change leaves: one law for each, from the parts that it stores.
-use Prim.Native.Nat.{ℕ, ◌+◌, ◌<◌, ◌≤◌}
+use Prim.Native.Nat.{ℕ, ◌+◌, ◌<◌}
 use mathlib.Core.Path.{◌≡◌, refl, sym, ap, ◌∙◌}
-use mathlib.Core.Logic.{◌≢◌}
 use mathlib.Core.List.{List, [], ◌∷◌, ◌++◌}
-use Rattle.std.specs.Prelude.{Option, None}
-use mathlib.Core.Bool.{true, cond}
+use Rattle.std.specs.Prelude.{Option, Some, None}
+use mathlib.Core.Bool.{true, false, cond}
 use native.Mathlib.Omega.{arith}
 use lib.Dec.{eqb}
 use lib.ListN.{length, get_or, set, drop, replicate, length-replicate, get_or-replicate, take-append-drop}
-use borrow.Author.Tests.{lt-ltb, le-ltb, eq-eqb, ne_eqb}
 use borrow.Rule.Slice.PartMut.{put_mid}
-use Rattle.state.specs.Result.{Bytes}
+use Rattle.state.specs.Outcome.{Bytes}
 use Rattle.state.specs.Seq.{each}
 use Rattle.state.proofs.Seq.{each_same, get_d_each}
 use Rattle.multi_cycle_list.specs.Lists.{Lists, without_entry, moved_back, empty}
 use Rattle.multi_cycle_list.specs.Nodes as nodes
 use Rattle.multi_cycle_list.specs.Laid as lists
 use Rattle.multi_cycle_list.proofs.Laid as lists_laid
-use Rattle.tx_queue.specs.TxQueue.{Sets, Pick, TxQueue, fresh, place, sets_of}
+use Rattle.tx_queue.specs.TxQueue.{Sets, Pick, TxQueue, fresh, place, sets_of, is_at}
 use Rattle.tx_queue.specs.Bytes.{queue_part, ready_at, started_at, flag_at, read, whole_b, ready_over, started_over, flag_over, pick_mask_over, mtu_of, laid}
 use Rattle.tx_queue.specs.Steps.{requeued, becomes, with_mask, with_pick, sets}
 use Rattle.tx_queue.proofs.Parts.{Joined, split, tail_of, queue_of, ready_laid, started_laid, flags_laid, tail_laid, laid-joined, flag_at_lem, put-queue, set-ready, set-started, set-flag, set-tail, laid_from}
@@ -52,16 +50,18 @@ module _ (s : List ℕ) (y : Bytes s) (h : whole_b s ≡ true) (e : ℕ) (he : e
 
   -- the queues
 
-  module _ (from to : ℕ) where
-    pub requeue_out : 16 ≤ to → (p : List ℕ) → p ≡ lists.laid (without_entry e (nodes.read (queue_part s))) → put_mid 0 290 s p ≡ with_queues s (requeued from to e m.queues)
-    requeue_out l p q = rw (le-ltb to 16 l) (ap (λ (z : List ℕ). z ++ drop 290 s) (q ∙ ap (λ (z : Lists). lists.laid (without_entry e z)) (queue-read s y h)))
+  module _ (from : Option ℕ) where
+    pub requeue_out : (p : List ℕ) → p ≡ lists.laid (without_entry e (nodes.read (queue_part s))) → put_mid 0 290 s p ≡ with_queues s (requeued from None e m.queues)
+    requeue_out p q = ap (λ (z : List ℕ). z ++ drop 290 s) (q ∙ ap (λ (z : Lists). lists.laid (without_entry e z)) (queue-read s y h))
 
-    pub requeue_back : to < 16 → from ≢ to → (p : List ℕ) → p ≡ lists.laid (moved_back to e (nodes.read (queue_part s))) → put_mid 0 290 s p ≡ with_queues s (requeued from to e m.queues)
-    requeue_back l n p q = rw (lt-ltb to 16 l, ne_eqb from to n) (ap (λ (z : List ℕ). z ++ drop 290 s) (q ∙ ap (λ (z : Lists). lists.laid (moved_back to e z)) (queue-read s y h)))
+    module _ (to : ℕ) where
+      pub requeue_back : is_at to from ≡ false → (p : List ℕ) → p ≡ lists.laid (moved_back to e (nodes.read (queue_part s))) → put_mid 0 290 s p ≡ with_queues s (requeued from (Some to) e m.queues)
+      requeue_back n p q = rw n (ap (λ (z : List ℕ). z ++ drop 290 s) (q ∙ ap (λ (z : Lists). lists.laid (moved_back to e z)) (queue-read s y h)))
 
-    pub requeue_same : to < 16 → from ≡ to → s ≡ with_queues s (requeued from to e m.queues)
-    requeue_same l q = rw (lt-ltb to 16 l, eq-eqb from to q) (sym (take-append-drop 290 s) ∙ ap (λ (z : List ℕ). z ++ drop 290 s) (queue-self s y h))
+      pub requeue_same : is_at to from ≡ true → s ≡ with_queues s (requeued from (Some to) e m.queues)
+      requeue_same q = rw q (sym (take-append-drop 290 s) ∙ ap (λ (z : List ℕ). z ++ drop 290 s) (queue-self s y h))
 
+  module _ (from to : Option ℕ) where
     abbrev Q : List ℕ
     Q = lists.laid (record { entries = 128; rows = requeued from to e m.queues })
 
@@ -73,7 +73,7 @@ module _ (s : List ℕ) (y : Bytes s) (h : whole_b s ≡ true) (e : ℕ) (he : e
 
   -- the entry gets the sets
 
-  pub became : (from ready started : ℕ) → set (with_sets (with_queues s (requeued from (place (sets ready started)) e m.queues)) e ready started) 676 0 ≡ laid (becomes e from (sets ready started) m) s
+  pub became : (from : Option ℕ) (ready started : ℕ) → set (with_sets (with_queues s (requeued from (place (sets ready started)) e m.queues)) e ready started) 676 0 ≡ laid (becomes e from (sets ready started) m) s
   became from ready started =
       let o = sets ready started in
       let q = Q from (place o) in
@@ -98,10 +98,10 @@ module _ (s : List ℕ) (y : Bytes s) (h : whole_b s ≡ true) (e : ℕ) (he : e
 
   -- the entry leaves
 
-  pub left : m.pick ≡ None → (from : ℕ) (p : List ℕ) → p ≡ lists.laid (without_entry e (nodes.read (queue_part s))) → set (put_mid 0 290 s p) (546 + e) 0 ≡ laid (becomes e from None m) s
+  pub left : m.pick ≡ None → (from : Option ℕ) (p : List ℕ) → p ≡ lists.laid (without_entry e (nodes.read (queue_part s))) → set (put_mid 0 290 s p) (546 + e) 0 ≡ laid (becomes e from None m) s
   left c from p q =
-      ap (λ (z : List ℕ). set z (546 + e) 0) (requeue_out from 16 (omega arith) p q)
-      ∙ laid_from (becomes e from None m) s (set-flag (with_queues s (requeued from 16 e m.queues)) (Q from 16) (each 128 (ready_at s)) (each 128 (started_at s)) (each 128 (flag_at s)) (tail_of s) (J from 16) e 0 he)
+      ap (λ (z : List ℕ). set z (546 + e) 0) (requeue_out from p q)
+      ∙ laid_from (becomes e from None m) s (set-flag (with_queues s (requeued from None e m.queues)) (Q from None) (each 128 (ready_at s)) (each 128 (started_at s)) (each 128 (flag_at s)) (tail_of s) (J from None) e 0 he)
       refl
       (part-kept s (becomes e from None m) e None he refl (ready_at s) ready_over (ready-self s y h) refl)
       (part-kept s (becomes e from None m) e None he refl (started_at s) started_over (started-self s y h) refl)
@@ -111,7 +111,7 @@ module _ (s : List ℕ) (y : Bytes s) (h : whole_b s ≡ true) (e : ℕ) (he : e
 -- ---- the mask and the pick
 
 -- a mask that is stored over what is laid
-pub mask-over : (m : TxQueue) (b : List ℕ) → length m.queues ≡ 16 → (mask : ℕ) → set (laid m b) 674 mask ≡ laid (with_mask mask m) b
+mask-over : (m : TxQueue) (b : List ℕ) → length m.queues ≡ 16 → (mask : ℕ) → set (laid m b) 674 mask ≡ laid (with_mask mask m) b
 mask-over m b n mask =
     laid_from (with_mask mask m) b (set-tail (laid m b) (lists.laid (queue_of m)) (ready_laid m b) (started_laid m b) (flags_laid m b) (tail_laid m b) (laid-joined m b n) 0 mask)
     refl refl refl refl refl
@@ -132,3 +132,11 @@ module _ (s : List ℕ) (y : Bytes s) (h : whole_b s ≡ true) where
       (each_same 128 (started_at s) (λ e. started_over (sets_of (read s) e) (started_at s e)) (started-self s y h))
       (each_same 128 (flag_at s) (λ e. flag_over (sets_of (read s) e) (flag_at s e)) (flag-self s y h))
       refl
+
+-- a mask that is stored after an entry's place is
+pub masked_after : (s : List ℕ) → whole_b s ≡ true → (e : ℕ) (from : Option ℕ) (o : Option Sets) (mask : ℕ)
+    → set (laid (becomes e from o (read s)) s) 674 mask ≡ laid (with_mask mask (becomes e from o (read s))) s
+masked_after s h e from o mask = mask-over (becomes e from o (read s)) s (requeued-long e from (place o) (read s).queues (queues-long s (known s h).sizes)) mask
+
+-- what the stores of a pick leave
+pub ruleset stores = (laid_read, masked, pick-opened)

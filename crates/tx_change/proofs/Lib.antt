@@ -1,3 +1,2 @@
 pub mod Looks
 pub mod Acts
-pub mod Calls

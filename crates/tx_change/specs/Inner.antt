@@ -1,11 +1,13 @@
 -- What the inner functions answer and store, as the code goes. No contract of a public call cites this.
 use Rattle.std.specs.Prelude.{ℕ, ◌+◌, ◌/◌, List, ◌++◌, Bool, cond, not, ◌||◌, eqb, ltb, get_or, set, drop, None}
-use Rattle.state.specs.Result.{Result}
+use Rattle.state.specs.Outcome.{Outcome}
 use Rattle.multi_cycle_list.specs.Laid as lists
-use Rattle.tx_queue.specs.TxQueue.{TxQueue, sets_of}
+use Rattle.tx_queue.specs.TxQueue.{TxQueue}
 use Rattle.tx_queue.specs.Steps as steps
-use Rattle.tx_queue.specs.Steps.{picked, started_of, settles}
-use Rattle.tx_queue.specs.declared.Answer.{Answer}
+use Rattle.tx_queue.specs.Steps.{settles}
+use Rattle.tx_queue.specs.declared.Frame.{Frame}
+use Rattle.tx_queue.specs.declared.Settled.{Settled}
+use Rattle.tx_change.specs.declared.Turn.{Turn}
 
 -- the queues are these
 abbrev pub with_queues : List ℕ → List (List ℕ) → List ℕ
@@ -17,12 +19,12 @@ with_sets s e ready started =
     let t = set (set s (290 + e) ready) (418 + e) started in
     set t (546 + e) (cond (eqb (get_or s (546 + e) 0) 0) 1 (get_or s (546 + e) 0))
 
--- settlements of the entry that a pick of the queue k named, by its started set: with a frame, and with none
-abbrev pub framed : Bool → ℕ → ℕ → TxQueue → Result Answer TxQueue
-framed eot r k m = steps.framed eot r (picked k m) k (started_of (sets_of m (picked k m))) m
+-- settlements of the entry that a pick named: with a frame, and with none
+abbrev pub framed : Bool → ℕ → Turn → TxQueue → Outcome Settled TxQueue
+framed eot r f m = steps.framed eot r f.entry f.queue f.started m
 
-abbrev pub unframed : ℕ → ℕ → ℕ → TxQueue → Result Answer TxQueue
-unframed r k mask m = settles None r (picked k m) k (started_of (sets_of m (picked k m))) mask m
+abbrev pub unframed : ℕ → Turn → ℕ → TxQueue → Outcome Settled TxQueue
+unframed r f mask m = settles None r f.entry f.queue f.started mask m
 
-abbrev pub fits_pick : ℕ → ℕ → ℕ → ℕ → Bool
-fits_pick mtu k priority length = not (eqb length 0 || (ltb mtu length || not (eqb priority (k / 2))))
+abbrev pub fits_pick : ℕ → ℕ → Frame → Bool
+fits_pick mtu k f = not (eqb f.length 0 || (ltb mtu f.length || not (eqb f.priority (k / 2))))

@@ -1,14 +1,13 @@
 -- What a whole registry is, and the code's test of it.
 use Prim.Native.Nat.{ℕ, ◌<◌, ◌≤◌}
 use mathlib.Core.Path.{◌≡◌, refl, sym, ap, ◌∙◌}
-use mathlib.Core.Logic.{◌≢◌}
 use mathlib.Core.List.{List}
 use mathlib.Core.Bool.{Bool, true, false, cond, not, ◌&&◌, beq}
 use native.Mathlib.Omega.{arith}
 use lib.Dec.{eqb, leb}
 use lib.ListN.{length, get_or}
 use lib.Seq.{get_or-take}
-use borrow.Author.Tests.{leb-true, eqb-true, le-leb, lt-leb, eq-eqb, ne_eqb}
+use borrow.Author.Tests.{leb-true, eqb-true, le-leb, eq-eqb}
 use Rattle.state.specs.Seq.{all_b}
 use Rattle.state.proofs.Seq.{all_true, all-at}
 use Rattle.state.proofs.Tests.{and_l, and_r, and4, same_test}
@@ -23,7 +22,7 @@ use Rattle.tx_queue.specs.Steps.{is_registered}
 use Rattle.tx_queue.specs.Bytes as queue
 use Rattle.tx_queue.specs.Bytes.{flag_at}
 use Rattle.tx_queue.proofs.Reading.{known}
-use Rattle.tx_change.proofs.Looks.{registered-is}
+use Rattle.tx_change.proofs.Looks.{registered_is}
 use Rattle.tx_msg.specs.Registry as registry
 use Rattle.tx_msg.specs.Registry.{Registry, subject_b}
 use Rattle.tx_msg.specs.Bytes.{tree_part, queue_part, whole_b, read}
@@ -91,77 +90,55 @@ pub of_whole : (b : List ℕ) → Whole b → whole_b b ≡ true
 unfolding whole_b
 of_whole b w = rw (eq-eqb (length b) 1062 w.long, le-leb (tree.size (tree_part b)) 128 w.size, w.queue, w.means)
 
--- ---- the code's test, step by step
-
--- its comparison of an entry's mark with its flag
-pub agree : (g f : Bool) → not (beq g (not f)) ≡ false → cond f (not g) g ≡ true
-agree true true h = sym h
-agree true false h = refl
-agree false true h = refl
-agree false false h = sym h
-
-pub differ : (g f : Bool) → not (beq g (not f)) ≡ true → cond f (not g) g ≡ false
-differ true true h = refl
-differ true false h = sym h
-differ false true h = sym h
-differ false false h = refl
+-- ---- the code's test
 
 pub size_is : (b : List ℕ) → tree.size (tree_part b) ≡ get_or b 0 0
 size_is b = get_or-take 385 b 0 0 (omega arith)
 
-pub no_length : (b : List ℕ) → length b ≢ 1062 → whole_b b ≡ false
-unfolding whole_b
-no_length b h = rw (ne_eqb (length b) 1062 h)
+-- its comparison of an entry's mark with its flag
+pub agree : (g f : Bool) → beq g (not f) ≡ cond f (not g) g
+agree true true = refl
+agree true false = refl
+agree false true = refl
+agree false false = refl
 
-module _ (b : List ℕ) (l : length b ≡ 1062) where
+module _ (b : List ℕ) (l : length b ≡ 1062) (h : get_or b 0 0 ≤ 128) where
   abbrev m : Registry
   m = read b
 
   abbrev Q : List ℕ
   Q = queue_part b
 
-  pub no_size : 128 < get_or b 0 0 → whole_b b ≡ false
-  unfolding whole_b
-  no_size h = rw (eq-eqb (length b) 1062 l, lt-leb (tree.size (tree_part b)) 128 (omega (arith, size_is b)))
+  -- the queue is whole; the tree's test came to r
+  module _ (w : queue.whole_b Q ≡ true) (seen : List ℕ) (r : Bool) (f : Fit 8191 false seen m.subjects r) where
+    tested : whole_b b ≡ (r && all_b 128 (subject_b m))
+    unfolding whole_b registry.whole_b pairs_fit_b
+    tested =
+        rw (eq-eqb (length b) 1062 l, le-leb (tree.size (tree_part b)) 128 (omega (arith, size_is b)), w, (known Q w).means, f.test, order-rising 0 m.subjects)
+        (assoc (in_range 8191 m.subjects) (all_b 128 (once_b m.subjects)) (rising 0 m.subjects) (all_b 128 (subject_b m)))
+      where
+        assoc : (p q r w : Bool) → (p && (q && (r && w))) ≡ ((p && (q && r)) && w)
+        assoc true true r w = refl
+        assoc true false r w = refl
+        assoc false q r w = refl
 
-  module _ (h : get_or b 0 0 ≤ 128) where
-    sized : whole_b b ≡ (queue.whole_b Q && registry.whole_b m)
-    unfolding whole_b
-    sized = rw (eq-eqb (length b) 1062 l, le-leb (tree.size (tree_part b)) 128 (omega (arith, size_is b)))
+    pub no_pairs : r ≡ false → whole_b b ≡ false
+    no_pairs q = tested ∙ ap (λ (t : Bool). t && all_b 128 (subject_b m)) q
 
-    pub no-queue : queue.whole_b Q ≡ false → whole_b b ≡ false
-    no-queue q = sized ∙ rw q
-
-    -- the queue is whole; the tree's test came to r
-    module _ (w : queue.whole_b Q ≡ true) (seen : List ℕ) (r : Bool) (f : Fit 8191 false seen m.subjects r) where
-      tested : whole_b b ≡ (r && all_b 128 (subject_b m))
-      unfolding registry.whole_b pairs_fit_b
-      tested =
-          sized
-          ∙ rw (w, (known Q w).means, f.test, order-rising 0 m.subjects) (assoc (in_range 8191 m.subjects) (all_b 128 (once_b m.subjects)) (rising 0 m.subjects) (all_b 128 (subject_b m)))
+    module _ (q : r ≡ true) where
+      same_at : (e : ℕ) → e < 128 → same_b Q seen e ≡ subject_b m e
+      same_at e i =
+          ap (λ (t : Bool). cond (eqb (flag_at Q e) 0) (not t) t) (f.marks q e)
+          ∙ flip (eqb (flag_at Q e) 0) (has_entry e m.subjects)
+          ∙ ap (λ (t : Bool). cond t (has_entry e m.subjects) (not (has_entry e m.subjects))) (registered_is Q e i)
         where
-          assoc : (p q r w : Bool) → (p && (q && (r && w))) ≡ ((p && (q && r)) && w)
-          assoc true true r w = refl
-          assoc true false r w = refl
-          assoc false q r w = refl
+          flip : (t u : Bool) → cond t (not u) u ≡ cond (not t) u (not u)
+          flip true u = refl
+          flip false u = refl
 
-      pub no_pairs : r ≡ false → whole_b b ≡ false
-      no_pairs q = tested ∙ ap (λ (t : Bool). t && all_b 128 (subject_b m)) q
-
-      module _ (q : r ≡ true) where
-        same_at : (e : ℕ) → e < 128 → same_b Q seen e ≡ subject_b m e
-        same_at e i =
-            ap (λ (t : Bool). cond (eqb (flag_at Q e) 0) (not t) t) (f.marks q e)
-            ∙ flip (eqb (flag_at Q e) 0) (has_entry e m.subjects)
-            ∙ ap (λ (t : Bool). cond t (has_entry e m.subjects) (not (has_entry e m.subjects))) (registered-is Q e i)
-          where
-            flip : (t u : Bool) → cond t (not u) u ≡ cond (not t) u (not u)
-            flip true u = refl
-            flip false u = refl
-
-        pub whole-last : all_b 128 (same_b Q seen) ≡ whole_b b
-        whole-last =
-            same_test (all_b 128 (same_b Q seen)) (all_b 128 (subject_b m))
-            (λ t. all_true 128 (subject_b m) (λ e i. sym (same_at e i) ∙ all-at 128 (same_b Q seen) t e i))
-            (λ t. all_true 128 (same_b Q seen) (λ e i. same_at e i ∙ all-at 128 (subject_b m) t e i))
-            ∙ sym (tested ∙ ap (λ (t : Bool). t && all_b 128 (subject_b m)) q)
+      pub whole-last : all_b 128 (same_b Q seen) ≡ whole_b b
+      whole-last =
+          same_test (all_b 128 (same_b Q seen)) (all_b 128 (subject_b m))
+          (λ t. all_true 128 (subject_b m) (λ e i. sym (same_at e i) ∙ all-at 128 (same_b Q seen) t e i))
+          (λ t. all_true 128 (same_b Q seen) (λ e i. same_at e i ∙ all-at 128 (subject_b m) t e i))
+          ∙ sym (tested ∙ ap (λ (t : Bool). t && all_b 128 (subject_b m)) q)

@@ -4,27 +4,28 @@ use mathlib.Core.Path.{◌≡◌, refl, sym, ap, ◌∙◌}
 use mathlib.Core.Logic.{◌≢◌}
 use mathlib.Core.List.{List}
 use Rattle.std.specs.Prelude.{Option, None, Some}
-use mathlib.Core.Bool.{true, false, not}
+use mathlib.Core.Bool.{Bool, true, false, not}
 use native.Mathlib.Omega.{arith}
 use native.Mathlib.Decide.{ℕ_discrete}
 use lib.Dec.{ltb}
 use lib.Seq.{get_or-set_same, get_or-set_other}
-use borrow.Author.Tests.{ltb-true, ltb-false}
+use borrow.Author.Tests.{ltb-false}
 use Rattle.state.specs.Seq.{to_nat}
-use Rattle.state.specs.Result.{Result, refuse, done, left}
-use Rattle.state.proofs.Tests.{and_r, by_cond}
+use Rattle.state.specs.Outcome.{Outcome, refuse, done, left}
+use Rattle.state.proofs.Tests.{by_cond}
 use Rattle.entry_tree.specs.Pairs.{Pair, pair, count, is_entry, on_subject, has_entry, has_subject, inserted, without}
 use Rattle.entry_tree.proofs.Count.{same, diff, compare_eq, any_false, true-any, false-any}
 use Rattle.entry_tree.proofs.Changes.{inserted-count, inserted-range, without-range, without-count-same, without-count-other}
 use Rattle.entry_tree.proofs.Once.{inserted-once, inserted_rising, without-once, without-rising}
 use Rattle.emcyphal_core.specs.Sets as sets
-use Rattle.tx_queue.specs.TxQueue.{Sets, Pick, TxQueue, place, sets_of, first_queue, mtu_b, pick_b}
+use Rattle.tx_queue.specs.TxQueue.{Sets, Pick, TxQueue, place, sets_of, first_queue, mtu_b}
 use Rattle.tx_queue.specs.Steps as queue
-use Rattle.tx_queue.specs.Steps.{Frame, is_registered, is_open, is_eot, becomes, started_of, picked, settles, wrong_frame, settle_pick, wrong_priority, Register, Update, PickFrame, Settle, Unregister}
-use Rattle.tx_queue.specs.declared.Answer.{Answer}
+use Rattle.tx_queue.specs.Steps.{is_registered, is_open, is_eot, becomes, started_of, picked, picks, settles, wrong_frame, settle_on, settle_pick, wrong_priority, Register, Update, PickFrame, Settle, Unregister}
+use Rattle.tx_queue.specs.declared.Frame.{Frame}
 use Rattle.tx_queue.proofs.Reading.{Conditions, conditions}
 use Rattle.tx_valid.specs.Means as valid
 use Rattle.tx_valid.proofs.Keeping as queues
+use Rattle.tx_change.proofs.Looks.{placed_registered}
 use Rattle.tx_msg.specs.Registry.{Registry}
 use Rattle.tx_msg.specs.Steps as messages
 use Rattle.tx_msg.specs.Steps.{with, Call, step, register}
@@ -41,7 +42,7 @@ module _ (q : TxQueue) (f : valid.Valid q) where
   c : Conditions q
   c = conditions q f.whole
 
-  module _ (e from : ℕ) (o : Option Sets) where
+  module _ (e : ℕ) (from : Option ℕ) (o : Option Sets) where
     own : e < 128 → sets_of (becomes e from o q) e ≡ o
     own l = get_or-set_same q.entries e o None (omega (arith, c.entries))
 
@@ -49,37 +50,36 @@ module _ (q : TxQueue) (f : valid.Valid q) where
     other x n = get_or-set_other q.entries e x o None n
 
   -- an entry that is registered gets sets
-  becomes-same : (e from : ℕ) (s : Sets) → is_registered (sets_of q e) ≡ true → Same q (becomes e from (Some s) q)
+  becomes-same : (e : ℕ) (from : Option ℕ) (s : Sets) → is_registered (sets_of q e) ≡ true → Same q (becomes e from (Some s) q)
   becomes-same e from s t x l = elim (ℕ_discrete x e) [
     | yes z ↦ rw z (ap is_registered (own e from (Some s) (omega arith)) ∙ sym t)
     | no z ↦ ap is_registered (other e from (Some s) x z)
   ]
 
-  -- the entry that a pick names
-  requeued : (o : Option Sets) → place o < 16 → is_registered o ≡ true
-  requeued None l = absurd (omega arith)
-  requeued (Some s) l = refl
-
-  abbrev Keeps : Result Answer TxQueue → Type 0
+  abbrev Keeps : {A : Type 0} → Outcome A TxQueue → Type 0
   Keeps o = Same q (left q o)
 
   as_is : Same q q
   as_is e l = refl
 
   settles-same : (o : Option Frame) (r e k t mask : ℕ) → is_registered (sets_of q e) ≡ true → Keeps (settles o r e k t mask q)
-  settles-same None r e k t mask h = becomes-same e k (record { ready = r; started = t }) h
+  settles-same None r e k t mask h = becomes-same e (Some k) (record { ready = r; started = t }) h
   settles-same (Some g) r e k t mask h = by_cond Keeps (is_eot g)
-      (λ _. becomes-same e 16 (record { ready = r; started = sets.without t (k / 2) }) h)
-      (λ _. becomes-same e k (record { ready = r; started = queue.inserted t (k / 2) }) h)
+      (λ _. becomes-same e None (record { ready = r; started = sets.without t (k / 2) }) h)
+      (λ _. becomes-same e (Some k) (record { ready = r; started = queue.inserted t (k / 2) }) h)
 
-  settle-same : (o : Option Frame) (r : ℕ) (p : Option Pick) → pick_b q p ≡ true → Keeps (settle_pick o r p q)
-  settle-same o r None h = as_is
-  settle-same o r (Some p) h =
-      let k = first_queue p.mask q in
+  -- the entry that a pick names is registered
+  settle-on-same : (o : Option Frame) (r : ℕ) (p : Pick) (k : Option ℕ) → first_queue p.mask q ≡ k → Keeps (settle_on o r p k q)
+  settle-on-same o r p None h = as_is
+  settle-on-same o r p (Some k) h =
       let e = picked k q in
-      let l = ltb-true k 16 (and_r (mtu_b p.mtu) (ltb k 16) h) in
-      let s = queues.picked-place q f k l (queues.pick-filled q f p.mask l) in
-      by_cond Keeps (wrong_frame o k p) (λ _. as_is) (λ _. settles-same o r e k (started_of (sets_of q e)) p.mask (requeued (sets_of q e) (omega (arith, s))))
+      let w = queues.pick-filled q f p.mask k h in
+      by_cond Keeps (wrong_frame o k p) (λ _. as_is)
+      (λ _. settles-same o r e k (started_of (sets_of q e)) p.mask (placed_registered (sets_of q e) k (queues.picked-place q f k w.0 w.1)))
+
+  settle-same : (o : Option Frame) (r : ℕ) (p : Option Pick) → Keeps (settle_pick o r p q)
+  settle-same o r None = as_is
+  settle-same o r (Some p) = settle-on-same o r p (first_queue p.mask q) refl
 
   update_same : (e r : ℕ) → Keeps (queue.update e r q)
   unfolding queue.update
@@ -88,20 +88,23 @@ module _ (q : TxQueue) (f : valid.Valid q) where
       by_cond Keeps (is_open q.pick) (λ _. as_is) (λ _.
       by_cond Keeps (is_registered (sets_of q e)) (λ h. becomes-same e (place (sets_of q e)) (record { ready = r; started = started_of (sets_of q e) }) h) (λ _. as_is)))
 
+  picks-same : (mask mtu : ℕ) (k : Option ℕ) → Keeps (picks mask mtu k q)
+  picks-same mask mtu None = as_is
+  picks-same mask mtu (Some k) = as_is
+
   pick_same : (mask mtu : ℕ) → Keeps (queue.pick mask mtu q)
   unfolding queue.pick
   pick_same mask mtu =
       by_cond Keeps (not (mtu_b mtu)) (λ _. as_is) (λ _.
-      by_cond Keeps (is_open q.pick) (λ _. as_is) (λ _.
-      by_cond Keeps (ltb (first_queue mask q) 16) (λ _. as_is) (λ _. as_is)))
+      by_cond Keeps (is_open q.pick) (λ _. as_is) (λ _. picks-same mask mtu (first_queue mask q)))
 
   settled_same : (o : Option Frame) (r : ℕ) → Keeps (queue.settle o r q)
   unfolding queue.settle
-  settled_same o r = by_cond Keeps (wrong_priority o) (λ _. as_is) (λ _. settle-same o r q.pick c.pick)
+  settled_same o r = by_cond Keeps (wrong_priority o) (λ _. as_is) (λ _. settle-same o r q.pick)
 
   -- ---- subjects as an entry joins and leaves
 
-  joins-named : (l : List Pair) → Named l q → (e x from : ℕ) (s : Sets) → Named (inserted (pair e x) l) (becomes e from (Some s) q)
+  joins-named : (l : List Pair) → Named l q → (e x : ℕ) (from : Option ℕ) (s : Sets) → Named (inserted (pair e x) l) (becomes e from (Some s) q)
   joins-named l n e x from s y i =
       let k = inserted-count (pair e x) (is_entry y) l in
       elim (compare_eq y e) [
@@ -111,7 +114,7 @@ module _ (q : TxQueue) (f : valid.Valid q) where
             ap is_registered (other e from (Some s) y z) ∙ n y i ∙ ap (ltb 0) u
       ]
 
-  leaves-named : (l : List Pair) → Named l q → (e from : ℕ) → Named (without e l) (becomes e from None q)
+  leaves-named : (l : List Pair) → Named l q → (e : ℕ) (from : Option ℕ) → Named (without e l) (becomes e from None q)
   leaves-named l n e from y i = elim (ℕ_discrete y e) [
     | yes z ↦ rw z (ap is_registered (own e from None (omega arith)) ∙ sym (false-any (is_entry e) (without e l) (without-count-same e l)))
     | no z ↦ ap is_registered (other e from None y z) ∙ n y i ∙ ap (ltb 0) (sym (without-count-other e y z l))
@@ -124,14 +127,14 @@ module _ (m : Registry) (f : Valid m) where
   F = facts_of m f.whole
 
   -- the subjects stay, and who is registered
-  kept : (o : Result Answer TxQueue) → valid.Valid (left m.queue o) → Same m.queue (left m.queue o) → Valid (left m (with m.subjects o))
-  kept (refuse a) g s = f
+  kept : {A : Type 0} (o : Outcome A TxQueue) → valid.Valid (left m.queue o) → Same m.queue (left m.queue o) → Valid (left m (with m.subjects o))
+  kept (refuse r) g s = f
   kept (done a p) g s = record {
     whole = of_facts (record { subjects = m.subjects; queue = p }) (record { queue = g.whole; range = F.range; once = F.once; rises = F.rises; named = λ e l. s e l ∙ F.named e l });
     queue = g;
   }
 
-  abbrev Leaves : ℕ → Result Answer TxQueue → Type 0
+  abbrev Leaves : ℕ → Outcome Bool TxQueue → Type 0
   Leaves e o = valid.Valid (left m.queue o) → Valid (left m (with (without e m.subjects) o))
 
   unregister-valid : (e : ℕ) → Valid (left m (messages.unregister e m))
@@ -151,7 +154,7 @@ module _ (m : Registry) (f : Valid m) where
       }) (λ _ _. f)))
       (queues.step_valid (Unregister e) m.queue f.queue)
 
-  abbrev Left : Result Answer Registry → Type 0
+  abbrev Left : {A : Type 0} → Outcome A Registry → Type 0
   Left o = Valid (left m o)
 
   register-valid : (e x r : ℕ) → r < 256 → Valid (left m (register e x r m))
@@ -162,7 +165,7 @@ module _ (m : Registry) (f : Valid m) where
       by_cond Left (is_open m.queue.pick) (λ _. f) (λ to.
       by_cond Left (is_registered (sets_of m.queue e)) (λ _. f) (λ tr.
       by_cond Left (has_subject x m.subjects) (λ _. f) (λ ts.
-      let q : TxQueue = becomes e 16 (queue.sets r 0) m.queue in
+      let q : TxQueue = becomes e None (queue.sets r 0) m.queue in
       let g : valid.Valid q = rw (te, to, tr) at (queues.step_valid (Register e r h) m.queue f.queue) in
       let out : has_entry e m.subjects ≡ false = sym (F.named e (omega (arith, ltb-false 127 e te))) ∙ tr in
       record {
@@ -171,7 +174,7 @@ module _ (m : Registry) (f : Valid m) where
           range = inserted-range (pair e x) 8191 m.subjects (ltb-false 127 e te) (ltb-false 8191 x tx) F.range;
           once = inserted-once e x m.subjects out F.once;
           rises = inserted_rising (pair e x) 0 m.subjects zero-le (any_false (on_subject x) m.subjects ts) F.rises;
-          named = joins-named m.queue f.queue m.subjects F.named e x 16 (record { ready = r; started = 0 });
+          named = joins-named m.queue f.queue m.subjects F.named e x None (record { ready = r; started = 0 });
         });
         queue = g;
       })))))

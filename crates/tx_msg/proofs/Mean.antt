@@ -9,17 +9,16 @@ use lib.Dec.{eqb}
 use lib.ListN.{length, replicate, length-replicate, get_or-replicate}
 use borrow.Author.Tests.{eqb-true}
 use Rattle.state.specs.Lengths.{messages_length}
-use Rattle.state.specs.Result.{done, Bytes}
+use Rattle.state.specs.Outcome.{done, Bytes}
+use Rattle.state.specs.declared.Refusal.TheVariants.{NotWhole}
 use Rattle.state.proofs.Bytes.{bytes-part, bytes-append}
-use Rattle.state.proofs.Calls.{opened-is, means_of}
+use Rattle.state.proofs.Outcomes.{opened-is, means_of}
 use Rattle.state.proofs.Filled.{zero-bytes}
 use Rattle.entry_tree.specs.Places as tree
 use Rattle.entry_tree.proofs.Laid as trees
 use Rattle.tx_queue.specs.TxQueue.{Sets}
 use Rattle.tx_queue.specs.Bytes as queue
 use Rattle.tx_queue.specs.Steps.{is_registered}
-use Rattle.tx_queue.specs.declared.Answer.{Answer}
-use Rattle.tx_queue.specs.declared.Answer.TheVariants.{Refused, Done}
 use Rattle.tx_queue.proofs.Reading.{conditions}
 use Rattle.tx_valid.proofs.Reading as queues
 use Rattle.tx_valid.proofs.Mean as queue_mean
@@ -97,10 +96,10 @@ fresh-valid = record {
   queue = queue_mean.fresh-valid;
 }
 
-opened : (b : ℕ) (a : Answer) (m : Registry) → opening b ≡ done a m → whole_b (laid m (replicate b 0)) ≡ true
+opened : (b : ℕ) (a : Unit {0}) (m : Registry) → opening b ≡ done a m → whole_b (laid m (replicate b 0)) ≡ true
 unfolding opening
 opened b a m h =
-    let i = opened-is (eqb b messages_length) Done (Refused 1) fresh a m h in
+    let i = opened-is (eqb b messages_length) tt NotWhole fresh a m h in
     subst (λ (x : Registry). whole_b (laid x (replicate b 0)) ≡ true) i.1
     (laid_whole fresh (replicate b 0) (zero-bytes b) fresh-valid (length-replicate {A = ℕ} b 0 ∙ eqb-true b messages_length i.0))
 
@@ -110,5 +109,5 @@ pub means : MessagesMeans
 means =
     record {
       opened = opened;
-      meaning = means_of whole_b read laid (Refused 1) Valid Sized laid_bytes laid_whole read_laid step read-valid (λ b h. (whole_of b h).long) laid_read step_valid (λ k m n f z. z);
+      meaning = means_of whole_b read laid Valid Sized laid_bytes laid_whole read_laid step read-valid (λ b h. (whole_of b h).long) laid_read step_valid (λ k m n f z. z);
     }

@@ -1,9 +1,7 @@
 -- What is proved of the bytes and calls of message transmission.
 use Rattle.std.specs.Prelude.{ℕ, ◌≡◌, true, replicate}
 use Rattle.state.specs.Lengths.{messages_length}
-use Rattle.state.specs.Result.{done, Means}
-use Rattle.tx_queue.specs.declared.Answer.{Answer}
-use Rattle.tx_queue.specs.declared.Answer.TheVariants.{Refused}
+use Rattle.state.specs.Outcome.{done, Means}
 use Rattle.tx_valid.specs.Means as queue
 use Rattle.tx_msg.specs.Registry as registry
 use Rattle.tx_msg.specs.Registry.{Registry}
@@ -21,5 +19,5 @@ Sized m n = n ≡ messages_length
 
 pub record MessagesMeans : Type 0 where
   -- opened bytes are whole
-  pub opened : (b : ℕ) (a : Answer) (m : Registry) → opening b ≡ done a m → whole_b (laid m (replicate b 0)) ≡ true
-  pub meaning : Means whole_b read laid (Refused 1) Valid Sized step
+  pub opened : (b : ℕ) (a : Unit {0}) (m : Registry) → opening b ≡ done a m → whole_b (laid m (replicate b 0)) ≡ true
+  pub meaning : Means whole_b read laid Valid Sized step

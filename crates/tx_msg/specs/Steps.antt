@@ -1,38 +1,40 @@
 -- The calls of message transmission on its plain meaning: those of the transmit queue, with subjects.
-use Rattle.std.specs.Prelude.{ℕ, ◌<◌, cond, List, ltb, Option}
-use Rattle.state.specs.Result.{Result, refuse, done}
+use Rattle.std.specs.Prelude.{ℕ, ◌<◌, Bool, cond, List, ltb, Option}
+use Rattle.state.specs.Outcome.{Outcome, refuse, done}
+use Rattle.state.specs.declared.Refusal.TheVariants.{EntryRange, Range, Registered, Occupied, PickOpen}
 use Rattle.entry_tree.specs.Pairs.{Pair, pair, has_subject, without, inserted}
 use Rattle.tx_queue.specs.TxQueue.{TxQueue, sets_of}
 use Rattle.tx_queue.specs.Steps as queue
-use Rattle.tx_queue.specs.Steps.{Frame, is_open, is_registered}
-use Rattle.tx_queue.specs.declared.Answer.{Answer}
-use Rattle.tx_queue.specs.declared.Answer.TheVariants.{Refused}
+use Rattle.tx_queue.specs.Steps.{is_open, is_registered}
+use Rattle.tx_queue.specs.declared.Picked.{Picked}
+use Rattle.tx_queue.specs.declared.Frame.{Frame}
+use Rattle.tx_queue.specs.declared.Settled.{Settled}
 use Rattle.tx_msg.specs.Registry.{Registry}
 
 -- what a call of the queue comes to, where the subjects are then l
-abbrev pub with : List Pair → Result Answer TxQueue → Result Answer Registry
-with l (refuse a) = refuse a
+abbrev pub with : {A : Type 0} → List Pair → Outcome A TxQueue → Outcome A Registry
+with l (refuse r) = refuse r
 with l (done a q) = done a (record { subjects = l; queue = q })
 
-unfoldable pub register : ℕ → ℕ → ℕ → Registry → Result Answer Registry
+unfoldable pub register : ℕ → ℕ → ℕ → Registry → Outcome Bool Registry
 register e x r m =
-    cond (ltb 127 e) (refuse (Refused 2)) (
-    cond (ltb 8191 x) (refuse (Refused 3)) (
-    cond (is_open m.queue.pick) (refuse (Refused 10)) (
-    cond (is_registered (sets_of m.queue e)) (refuse (Refused 5)) (
-    cond (has_subject x m.subjects) (refuse (Refused 7)) (
+    cond (ltb 127 e) (refuse EntryRange) (
+    cond (ltb 8191 x) (refuse Range) (
+    cond (is_open m.queue.pick) (refuse PickOpen) (
+    cond (is_registered (sets_of m.queue e)) (refuse Registered) (
+    cond (has_subject x m.subjects) (refuse Occupied) (
     with (inserted (pair e x) m.subjects) (queue.registers e r m.queue))))))
 
-abbrev pub unregister : ℕ → Registry → Result Answer Registry
+abbrev pub unregister : ℕ → Registry → Outcome Bool Registry
 unregister e m = with (without e m.subjects) (queue.unregister e m.queue)
 
-abbrev pub update : ℕ → ℕ → Registry → Result Answer Registry
+abbrev pub update : ℕ → ℕ → Registry → Outcome Bool Registry
 update e r m = with m.subjects (queue.update e r m.queue)
 
-abbrev pub pick : ℕ → ℕ → Registry → Result Answer Registry
+abbrev pub pick : ℕ → ℕ → Registry → Outcome (Option Picked) Registry
 pick mask mtu m = with m.subjects (queue.pick mask mtu m.queue)
 
-abbrev pub settle : Option Frame → ℕ → Registry → Result Answer Registry
+abbrev pub settle : Option Frame → ℕ → Registry → Outcome Settled Registry
 settle f r m = with m.subjects (queue.settle f r m.queue)
 
 -- ---- every call but opening
@@ -45,7 +47,15 @@ pub data Call : Type 0 where
   PickFrame : (mask mtu : ℕ) → mask < 256 → Call
   Settle : Option Frame → (r : ℕ) → r < 256 → Call
 
-abbrev pub step : Call → Registry → Result Answer Registry
+-- what a call answers
+abbrev pub Answer : Call → Type 0
+Answer (Unregister e) = Bool
+Answer (Register e x r h) = Bool
+Answer (Update e r h) = Bool
+Answer (PickFrame mask mtu h) = Option Picked
+Answer (Settle f r h) = Settled
+
+abbrev pub step : (k : Call) → Registry → Outcome (Answer k) Registry
 step (Unregister e) = unregister e
 step (Register e x r h) = register e x r
 step (Update e r h) = update e r

@@ -1,5 +1,5 @@
 pub mod Parts
 pub mod Reading
-pub mod Turns
 pub mod Testing
+pub mod Turns
 pub mod Grounds

@@ -1,8 +1,7 @@
 -- What whole bytes are, and what is read from them.
-use Prim.Native.Nat.{ℕ, ◌+◌, ◌*◌, ◌<◌, ◌≤◌}
-use mathlib.Core.Path.{◌≡◌, ◌∙◌}
-use mathlib.Core.Logic.{◌≢◌}
-use Rattle.std.specs.Prelude.{Option, None, Some}
+use Prim.Native.Nat.{ℕ, ◌+◌, ◌*◌, ◌<◌}
+use mathlib.Core.Path.{◌≡◌, refl, sym, ap, ◌∙◌}
+use Rattle.std.specs.Prelude.{Option, None, Some, IfSome}
 use mathlib.Core.List.{List, []}
 use mathlib.Core.Bool.{Bool, true, false, cond}
 use native.Mathlib.Omega.{arith}
@@ -22,27 +21,27 @@ use Rattle.emcyphal_core.specs.Sets.{has, first_of}
 use Rattle.emcyphal_core.specs.declared.Priority.{Priority}
 use Rattle.emcyphal_core.proofs.Laws.{numbered}
 use Rattle.tx_queue.specs.TxQueue as plain
-use Rattle.tx_queue.specs.TxQueue.{Sets, TxQueue, queue_of, place, sets_of, placed_b, pick_b}
+use Rattle.tx_queue.specs.TxQueue.{Sets, TxQueue, queue_of, place, sets_of, is_at, placed_b, pick_b}
 use Rattle.tx_queue.specs.Bytes.{queue_part, sets_at, read, sizes_b, whole_b}
 
 -- ---- an entry's queue
 
-pub queue-most : (p : Option Priority) (started : ℕ) → queue_of p started ≤ 16
-queue-most (Some p) started = least (has started (number p))
+pub queue-below : (p : Option Priority) (started : ℕ) → IfSome (queue_of p started) (λ k. k < 16)
+queue-below (Some p) started = least (has started (number p))
   where
-    least : (b : Bool) → 2 * number p + cond b 0 1 ≤ 16
+    least : (b : Bool) → 2 * number p + cond b 0 1 < 16
     least true = omega (arith, (numbered p).0)
     least false = omega (arith, (numbered p).0)
-queue-most NoPriority started = omega arith
+queue-below None started = tt
 
-pub place-most : (o : Option Sets) → place o ≤ 16
-place-most None = omega arith
-place-most (Some s) = queue-most (first_of s.ready) s.started
+pub place-below : (o : Option Sets) → IfSome (place o) (λ k. k < 16)
+place-below None = tt
+place-below (Some s) = queue-below (first_of s.ready) s.started
 
 -- ---- what is read
 
-pub sets-at : (s : List ℕ) (e : ℕ) → e < 128 → sets_of (read s) e ≡ sets_at s e
-sets-at s e l = get_d_each 128 (sets_at s) e None l
+pub sets_are : (s : List ℕ) (e : ℕ) → e < 128 → sets_of (read s) e ≡ sets_at s e
+sets_are s e l = get_d_each 128 (sets_at s) e None l
 
 pub entries-long : (s : List ℕ) → length (read s).entries ≡ 128
 entries-long s = length-each 128 (sets_at s)
@@ -92,14 +91,15 @@ whole_of s l z q = rw (eq-eqb (length s) 677 l, z, q)
 -- ---- a whole meaning
 
 -- how often an entry that belongs in the queue p stands in the queue k
-abbrev pub times : ℕ → ℕ → ℕ
-times p k = to_nat (eqb p k)
+abbrev pub times : Option ℕ → ℕ → ℕ
+times p k = to_nat (is_at k p)
 
-pub times-own : (p k : ℕ) → p ≡ k → times p k ≡ 1
-times-own p k q = rw (eq-eqb p k q)
+pub times-own : (p : Option ℕ) (k : ℕ) → p ≡ Some k → times p k ≡ 1
+times-own p k q = rw (q, eq-eqb k k refl)
 
-pub times-other : (p k : ℕ) → p ≢ k → times p k ≡ 0
-times-other p k q = rw (ne_eqb p k q)
+pub times-other : (p : Option ℕ) (k : ℕ) → (p ≡ Some k → ⊥) → times p k ≡ 0
+times-other None k q = refl
+times-other (Some p) k q = rw (ne_eqb k p (λ z. q (ap (λ (n : ℕ). Some n) (sym z))))
 
 pub record Conditions (m : TxQueue) : Type 0 where
   pub entries : length m.entries ≡ 128

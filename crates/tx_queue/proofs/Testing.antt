@@ -1,6 +1,6 @@
 -- The marks that the list queue's test leaves come to the entries' placed.
-use Prim.Native.Nat.{ℕ, suc, ◌+◌, ◌-◌, ◌%◌, ◌<◌, ◌≤◌}
-use mathlib.Core.Path.{◌≡◌, refl, sym, ◌∙◌}
+use Prim.Native.Nat.{ℕ, suc, ◌+◌, ◌-◌, ◌<◌, ◌≤◌}
+use mathlib.Core.Path.{◌≡◌, refl, sym, ap, ◌∙◌}
 use mathlib.Core.List.{List, []}
 use mathlib.Core.Bool.{Bool}
 use native.Mathlib.Omega.{arith}
@@ -8,12 +8,14 @@ use native.Mathlib.Decide.{ℕ_discrete}
 use lib.Dec.{eqb}
 use lib.ListN.{get_or}
 use borrow.Author.Tests.{eqb-true, eq-eqb}
+use Rattle.std.specs.Prelude.{Option, Some, None, IfSome}
 use Rattle.state.specs.Seq.{all_b}
 use Rattle.state.proofs.Tests.{same_test}
 use Rattle.state.proofs.Seq.{all_true, all-at}
 use Rattle.multi_cycle_list.specs.Lists.{count}
 use Rattle.tx_queue.specs.TxQueue.{TxQueue, place, sets_of, placed_b}
-use Rattle.tx_queue.proofs.Reading.{place-most, times, times-own, times-other, placed_at, of_placed}
+use Rattle.tx_queue.specs.Inner.{mark_of}
+use Rattle.tx_queue.proofs.Reading.{place-below, times, times-own, times-other, placed_at, of_placed}
 
 -- each entry's mark names its queue
 pub record Marks (queues : List (List ℕ)) (seen : List ℕ) : Type 0 where
@@ -26,43 +28,40 @@ module _ (m : TxQueue) (seen : List ℕ) (marks : Marks m.queues seen) where
     abbrev mark : ℕ
     mark = get_or seen (16 + e) 0
 
-    abbrev at : ℕ
-    at = place (sets_of m e)
+    -- the entry, with this place, stands as often in each queue as it says
+    abbrev Stands : Option ℕ → Type 0
+    Stands at = (k : ℕ) → k < 16 → count e (get_or m.queues k []) ≡ times at k
 
-    most : at ≤ 16
-    most = place-most (sets_of m e)
+    -- where its mark names no queue, or another, it does not stand in the queue k
+    away : (k : ℕ) → k < 16 → (mark ≡ suc k → ⊥) → count e (get_or m.queues k []) ≡ 0
+    away k i n = elim (ℕ_discrete (count e (get_or m.queues k [])) 0) [ yes z ↦ z | no z ↦ absurd (n (marks.in_queue e k l i (omega arith))) ]
 
-    in_placed : mark ≡ (at + 1) % 17 → (k : ℕ) → k < 16 → count e (get_or m.queues k []) ≡ times at k
-    in_placed h k i = elim (ℕ_discrete at k) [
-      | yes q ↦ omega (arith, times-own at k q, marks.once e k, (marks.of_queue e k l (h ∙ omega arith)).1)
-      | no q ↦ elim (ℕ_discrete (count e (get_or m.queues k [])) 0) [
-        | yes z ↦ z ∙ sym (times-other at k q)
-        | no z ↦ absurd (q (omega (arith, h, most, marks.in_queue e k l i (omega arith))))
-      ]
+    stands : (at : Option ℕ) → mark ≡ mark_of at → Stands at
+    stands None h k i = away k i (λ z. absurd (omega arith))
+    stands (Some p) h k i = elim (ℕ_discrete p k) [
+      | yes q ↦ omega (arith, times-own (Some p) k (ap (λ (n : ℕ). Some n) q), marks.once e k, (marks.of_queue e k l (omega arith)).1)
+      | no q ↦ away k i (λ z. q (omega arith)) ∙ sym (times-other (Some p) k (λ z. q (cc)))
     ]
 
-    of_counts : ((k : ℕ) → k < 16 → count e (get_or m.queues k []) ≡ times at k) → mark ≡ (at + 1) % 17
-    of_counts f = elim (ℕ_discrete at 16) [
-      | no q ↦
-          let i : at < 16 = omega (arith, most) in
-          marks.in_queue e at l i (omega (arith, f at i, times-own at at refl)) ∙ omega arith
-      | yes q ↦ elim (ℕ_discrete mark 0) [
-        | yes z ↦ omega arith
-        | no z ↦
-            let k = mark - 1 in
-            let r = marks.of_queue e k l (omega arith) in
-            absurd (omega (arith, r.1, f k r.0, times-other at k (omega (arith, r.0))))
-      ]
+    marked : (at : Option ℕ) → IfSome at (λ k. k < 16) → Stands at → mark ≡ mark_of at
+    marked None b f = elim (ℕ_discrete mark 0) [
+      | yes z ↦ z
+      | no z ↦
+          let r = marks.of_queue e (mark - 1) l (omega arith) in
+          absurd (omega (arith, r.1, f (mark - 1) r.0))
     ]
+    marked (Some p) b f = marks.in_queue e p l b (omega (arith, f p b, times-own (Some p) p refl))
 
     -- the code's test of a mark
     abbrev mark_b : Bool
-    mark_b = eqb mark ((at + 1) % 17)
+    mark_b = eqb mark (mark_of (place (sets_of m e)))
 
     is-placed : mark_b ≡ placed_b m e
-    is-placed = same_test mark_b (placed_b m e)
-        (λ h. of_placed m e (in_placed (eqb-true mark ((at + 1) % 17) h)))
-        (λ h. eq-eqb mark ((at + 1) % 17) (of_counts (placed_at m e h)))
+    is-placed =
+        let at = place (sets_of m e) in
+        same_test mark_b (placed_b m e)
+        (λ h. of_placed m e (stands at (eqb-true mark (mark_of at) h)))
+        (λ h. eq-eqb mark (mark_of at) (marked at (place-below (sets_of m e)) (placed_at m e h)))
 
   -- a test of every mark is the test of every place
   pub marks_are_placed : (f : ℕ → Bool) → ((e : ℕ) (l : e < 128) → f e ≡ mark_b e l) → all_b 128 f ≡ all_b 128 (placed_b m)

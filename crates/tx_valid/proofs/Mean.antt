@@ -2,18 +2,19 @@
 use Prim.Native.Nat.{ℕ, zero, suc, ◌+◌, ◌<◌}
 use mathlib.Core.Path.{◌≡◌, refl, sym, ap, ◌∙◌, subst}
 use mathlib.Core.List.{List, [], ◌∷◌, ◌++◌}
-use Rattle.std.specs.Prelude.{Option, None, Some}
+use Rattle.std.specs.Prelude.{Option, None, Some, is_some}
 use mathlib.Core.Bool.{true}
 use native.Mathlib.Omega.{arith}
 use native.Mathlib.Decide.{dec_lt}
-use lib.Dec.{eqb, ltb}
+use lib.Dec.{eqb}
 use lib.ListN.{length, get_or, replicate, length-replicate}
 use borrow.Author.Tests.{eqb-true, ne_eqb}
 use Rattle.state.specs.Lengths.{responses_length}
-use Rattle.state.specs.Result.{done, Bytes}
+use Rattle.state.specs.Outcome.{done, Bytes}
+use Rattle.state.specs.declared.Refusal.TheVariants.{NotWhole}
 use Rattle.state.specs.Seq.{each}
 use Rattle.state.proofs.Bytes.{bytes-append}
-use Rattle.state.proofs.Calls.{opened-is, means_of}
+use Rattle.state.proofs.Outcomes.{opened-is, means_of}
 use Rattle.state.proofs.Filled.{zero-bytes}
 use Rattle.state.proofs.Seq.{each_same, each_get_d, get_d_each}
 use Rattle.state.proofs.Tests.{and_l, not-both}
@@ -27,8 +28,6 @@ use Rattle.tx_queue.specs.TxQueue.{Sets, Pick, TxQueue, fresh, sets_of, first_qu
 use Rattle.tx_queue.specs.Bytes.{queue_part, ready_at, started_at, flag_at, sets_at, pick_of, read, whole_b, ready_over, started_over, flag_over, pick_mask_over, mtu_of, laid}
 use Rattle.tx_queue.specs.Steps.{step}
 use Rattle.tx_queue.specs.Calls.{opening}
-use Rattle.tx_queue.specs.declared.Answer.{Answer}
-use Rattle.tx_queue.specs.declared.Answer.TheVariants.{Refused, Done}
 use Rattle.tx_queue.proofs.Parts.{join, Joined, queue-is, ready_at_lem, started-at, flag_at_lem, tail_at, long, queue_of, ready_laid, started_laid, flags_laid, tail_laid, laid-joined}
 use Rattle.tx_queue.proofs.Reading.{Conditions, known, conditions, of_conditions, of_sizes, whole_of}
 use Rattle.tx_valid.specs.Means.{Valid, Sized, ResponsesMeans}
@@ -45,7 +44,7 @@ sets-back (Some s) (suc v) r t = let n = ne_eqb (suc v) 0 (omega arith) in rw (n
 -- the mtu of a pick is not 0
 pick-back : (m : TxQueue) (o : Option Pick) (x : ℕ) → pick_b m o ≡ true → pick_of (pick_mask_over o x) (mtu_of o) ≡ o
 pick-back m None x h = refl
-pick-back m (Some p) x h = rw (ne_eqb p.mtu 0 (not-zero p.mtu (and_l (mtu_b p.mtu) (ltb (first_queue p.mask m) 16) h)))
+pick-back m (Some p) x h = rw (ne_eqb p.mtu 0 (not-zero p.mtu (and_l (mtu_b p.mtu) (is_some (first_queue p.mask m)) h)))
   where
     not-zero : (n : ℕ) → mtu_b n ≡ true → n ≡ 0 → ⊥
     not-zero n t z = not-both (sym t ∙ ap mtu_b z)
@@ -88,7 +87,7 @@ mtu-most n h =
 
 mtu-byte : (m : TxQueue) (o : Option Pick) → pick_b m o ≡ true → mtu_of o < 256
 mtu-byte m None h = omega arith
-mtu-byte m (Some p) h = mtu-most p.mtu (and_l (mtu_b p.mtu) (ltb (first_queue p.mask m) 16) h)
+mtu-byte m (Some p) h = mtu-most p.mtu (and_l (mtu_b p.mtu) (is_some (first_queue p.mask m)) h)
 
 -- ---- what is laid reads back
 
@@ -174,19 +173,19 @@ fresh-valid = record {
   whole = of_conditions fresh (record {
     entries = refl;
     queues = refl;
-    placed = λ e k l h. empty-at 16 k e ∙ rw (none-at 128 e, ne_eqb 16 k (omega arith));
+    placed = λ e k l h. empty-at 16 k e ∙ rw (none-at 128 e);
     pick = refl;
   });
   inside = λ e k l h. empty-at 16 k e;
   sets = λ e s q. no-sets s (sym (none-at 128 e) ∙ q);
   mask = omega arith;
-  pick = λ p q. absurd (let z : ◌≡◌ {A = ℕ} 0 1 = cc in omega arith);
+  pick = λ p q. cc;
 }
 
-opened : (b : ℕ) (a : Answer) (m : TxQueue) → opening b ≡ done a m → whole_b (laid m (replicate b 0)) ≡ true
+opened : (b : ℕ) (a : Unit {0}) (m : TxQueue) → opening b ≡ done a m → whole_b (laid m (replicate b 0)) ≡ true
 unfolding opening
 opened b a m h =
-    let i = opened-is (eqb b responses_length) Done (Refused 1) fresh a m h in
+    let i = opened-is (eqb b responses_length) tt NotWhole fresh a m h in
     subst (λ (x : TxQueue). whole_b (laid x (replicate b 0)) ≡ true) i.1
     (laid_whole fresh (replicate b 0) (zero-bytes b) fresh-valid (length-replicate {A = ℕ} b 0 ∙ eqb-true b responses_length i.0))
 
@@ -196,5 +195,5 @@ pub means : ResponsesMeans
 means =
     record {
       opened = opened;
-      meaning = means_of whole_b read laid (Refused 1) Valid Sized laid_bytes laid_whole read_laid step read-valid (λ b h. (known b h).long) laid_read step_valid (λ k m n f z. z);
+      meaning = means_of whole_b read laid Valid Sized laid_bytes laid_whole read_laid step read-valid (λ b h. (known b h).long) laid_read step_valid (λ k m n f z. z);
     }

@@ -11,7 +11,7 @@ use lib.Dec.{eqb}
 use lib.ListN.{get_or, set, get_or-eq_default}
 use lib.Seq.{get_or-set_same, get_or-set_other, set-get_or}
 use borrow.Author.Tests.{eq-eqb, ne_eqb}
-use Rattle.state.specs.Result.{Bytes}
+use Rattle.state.specs.Outcome.{Bytes}
 use Rattle.state.specs.Seq.{each}
 use Rattle.state.proofs.Seq.{each_same, set-each, get_d_each}
 use Rattle.multi_cycle_list.specs.Lists.{Lists}
@@ -22,7 +22,7 @@ use Rattle.multi_cycle_list.proofs.Arcs.{row_count}
 use Rattle.tx_queue.specs.TxQueue.{Sets, Pick, TxQueue, sets_of}
 use Rattle.tx_queue.specs.Bytes.{queue_part, ready_at, started_at, flag_at, pick_of, read, whole_b, ready_over, started_over, flag_over, pick_mask_over, mtu_of, laid}
 use Rattle.tx_queue.proofs.Parts.{Joined, split, tail_of, queue_of, tail_laid, laid_from}
-use Rattle.tx_queue.proofs.Reading.{sets-at, entries-long, known}
+use Rattle.tx_queue.proofs.Reading.{sets_are, entries-long, known}
 use Rattle.tx_valid.specs.Means.{Valid}
 use Rattle.tx_valid.proofs.Keeping.{Fits, no-sets, fit_none, fit-sets}
 
@@ -57,7 +57,7 @@ mtu-own x zero = refl
 mtu-own x (suc mtu) = rw (ne_eqb (suc mtu) 0 (omega arith))
 
 pick-fits : (x mtu : ℕ) → x < 256 → (p : Pick) → pick_of x mtu ≡ Some p → p.mask < 256
-pick-fits x zero h p q = absurd (let z : ◌≡◌ {A = ℕ} 0 1 = cc in omega arith)
+pick-fits x zero h p q = cc
 pick-fits x (suc mtu) h p q =
     let w : Some (record { mask = x; mtu = suc mtu }) ≡ Some p = rw (ne_eqb (suc mtu) 0 (omega arith)) at q in
     subst (λ (z : Pick). z.mask < 256) (let v : record { mask = x; mtu = suc mtu } ≡ p = cc in v) h
@@ -73,7 +73,7 @@ module _ (b : List ℕ) (y : Bytes b) (h : whole_b b ≡ true) where
         whole = w.means;
         inside = λ e k l i. omega (arith, row_count e (read b).queues k, q.inside e (omega (arith, w.entries)));
         sets = λ e s t. elim (dec_lt e 128) [
-          | yes l ↦ fit_on (flag_at b e) (ready_at b e) (started_at b e) (y (290 + e)) (y (418 + e)) s (sym (sets-at b e l) ∙ t)
+          | yes l ↦ fit_on (flag_at b e) (ready_at b e) (started_at b e) (y (290 + e)) (y (418 + e)) s (sym (sets_are b e l) ∙ t)
           | no l ↦ no-sets s (sym (get_or-eq_default (read b).entries None {n = e} (omega (arith, entries-long b))) ∙ t)
         ];
         mask = y 674;
@@ -91,13 +91,13 @@ module _ (b : List ℕ) (y : Bytes b) (h : whole_b b ≡ true) where
   queue-self = sym (ap (λ (q : Lists). lists.laid q) (sym queue-read) ∙ lists_laid.laid_read (queue_part b) (known b h).queue)
 
   pub ready-self : (e : ℕ) → e < 128 → ready_at b e ≡ ready_over (sets_of (read b) e) (ready_at b e)
-  ready-self e l = ready-own (flag_at b e) (ready_at b e) (started_at b e) ∙ ap (λ (o : Option Sets). ready_over o (ready_at b e)) (sym (sets-at b e l))
+  ready-self e l = ready-own (flag_at b e) (ready_at b e) (started_at b e) ∙ ap (λ (o : Option Sets). ready_over o (ready_at b e)) (sym (sets_are b e l))
 
   pub started-self : (e : ℕ) → e < 128 → started_at b e ≡ started_over (sets_of (read b) e) (started_at b e)
-  started-self e l = started-own (flag_at b e) (ready_at b e) (started_at b e) ∙ ap (λ (o : Option Sets). started_over o (started_at b e)) (sym (sets-at b e l))
+  started-self e l = started-own (flag_at b e) (ready_at b e) (started_at b e) ∙ ap (λ (o : Option Sets). started_over o (started_at b e)) (sym (sets_are b e l))
 
   pub flag-self : (e : ℕ) → e < 128 → flag_at b e ≡ flag_over (sets_of (read b) e) (flag_at b e)
-  flag-self e l = flag-own (flag_at b e) (ready_at b e) (started_at b e) ∙ ap (λ (o : Option Sets). flag_over o (flag_at b e)) (sym (sets-at b e l))
+  flag-self e l = flag-own (flag_at b e) (ready_at b e) (started_at b e) ∙ ap (λ (o : Option Sets). flag_over o (flag_at b e)) (sym (sets_are b e l))
 
   pub tail-self : tail_of b ≡ tail_laid (read b) b
   tail-self = λ k. get_or b 674 0 ∷ (pick-own (get_or b 675 0) (get_or b 676 0) k ∷ (mtu-own (get_or b 675 0) (get_or b 676 0) k ∷ []))

@@ -1,15 +1,13 @@
 -- What is proved of a transmit queue's bytes and calls, which are the response registry's.
 use Rattle.std.specs.Prelude.{ℕ, ◌<◌, ◌≤◌, ◌≡◌, true, [], get_or, replicate, Some}
 use Rattle.state.specs.Lengths.{responses_length}
-use Rattle.state.specs.Result.{done, Means}
+use Rattle.state.specs.Outcome.{done, Means}
 use Rattle.multi_cycle_list.specs.Lists.{count}
 use Rattle.tx_queue.specs.TxQueue as queue
 use Rattle.tx_queue.specs.TxQueue.{Sets, Pick, TxQueue, sets_of}
 use Rattle.tx_queue.specs.Bytes.{whole_b, read, laid}
 use Rattle.tx_queue.specs.Steps.{step}
 use Rattle.tx_queue.specs.Calls.{opening}
-use Rattle.tx_queue.specs.declared.Answer.{Answer}
-use Rattle.tx_queue.specs.declared.Answer.TheVariants.{Refused}
 
 -- sets that are bytes
 pub record SetsFit (s : Sets) : Type 0 where
@@ -29,5 +27,5 @@ Sized m n = n ≡ responses_length
 
 pub record ResponsesMeans : Type 0 where
   -- opened bytes are whole
-  pub opened : (b : ℕ) (a : Answer) (m : TxQueue) → opening b ≡ done a m → whole_b (laid m (replicate b 0)) ≡ true
-  pub meaning : Means whole_b read laid (Refused 1) Valid Sized step
+  pub opened : (b : ℕ) (a : Unit {0}) (m : TxQueue) → opening b ≡ done a m → whole_b (laid m (replicate b 0)) ≡ true
+  pub meaning : Means whole_b read laid Valid Sized step

@@ -1,9 +1,8 @@
-use Prim.Native.Nat.{◌+◌, ◌-◌}
+use Prim.Native.Nat.{◌+◌}
+use mathlib.Core.Path.{◌≡◌}
 use Rattle.entry_merge.proofs.Writing.{Merging}
 use Rattle.entry_merge.proofs.merge.Given as goal
 
-abbrev pub invariant-loop-i : goal.invariant-loop-i
-invariant-loop-i l = Merging l.a l.b l.slots l.initial.t l.t l.w l.i l.j
-
-abbrev pub decreases-loop-i : goal.decreases-loop-i
-decreases-loop-i l = l.end - (l.i + l.j)
+-- each turn takes a pair of one tree
+abbrev pub invariant-loop : goal.invariant-loop
+invariant-loop l = Merging l.a l.b l.slots l.initial.t l.t l.w l.i l.j × (l.i + l.j ≡ l.counter)

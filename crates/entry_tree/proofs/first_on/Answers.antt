@@ -1,7 +1,12 @@
-use mathlib.Core.Path.{◌∙◌}
+use Rattle.std.proofs.Common.{◌∙◌, rules, tests}
+use Rattle.std.proofs.lemmas.Iterator.{YieldsList-from_slice}
+use Rattle.std.proofs.lemmas.Iterator.Search.{position_from_yields_List}
 use Rattle.entry_tree.specs.Pairs.{on_subject}
+use Rattle.entry_tree.specs.Inner.{pair_of}
 use Rattle.entry_tree.proofs.Reading.{position-read}
 use Rattle.entry_tree.proofs.first_on.Goals as goal
 
 pub returns : goal.returns
-returns c = c.first_in.ensures ∙ position-read (on_subject c.args.subject) c.args.t.now c.pairs.result.now c.pairs.ensures
+returns c =
+    position_from_yields_List (λ b. on_subject c.args.subject (pair_of b)) _ _ _ c.position.ensures.ran (YieldsList-from_slice c.pairs.result.now cc) (λ x b q k. search (rules, tests))
+    ∙ position-read (on_subject c.args.subject) c.args.t.now c.pairs.result.now c.pairs.ensures

@@ -1,11 +1,7 @@
-use Prim.Native.Nat.{◌-◌, ◌*◌, ◌≤◌}
+use Prim.Native.Nat.{◌-◌, ◌*◌}
 use mathlib.Core.Path.{◌≡◌}
-use lib.ListN.{length}
 use Rattle.filter_image.specs.Image.{image_of, without_range, holds}
 use Rattle.filter_image.proofs.clear_bytes.Given as goal
 
 abbrev pub invariant-loop-i : goal.invariant-loop-i
-invariant-loop-i l = (length l.s ≡ 1024) × (l.first ≤ l.i) × (l.i ≤ l.end) × (l.s ≡ image_of (without_range (8 * l.first) (8 * l.i - 1) (holds l.initial.s)))
-
-abbrev pub decreases-loop-i : goal.decreases-loop-i
-decreases-loop-i l = l.end - l.i
+invariant-loop-i l = l.s ≡ image_of (without_range (8 * l.first) (8 * l.i - 1) (holds l.initial.s))

@@ -1,4 +1,4 @@
-use Rattle.std.proofs.Common.{ℕ, Bool, ◌+◌, ◌∙◌, refl, ap, arith, rules, tests}
+use Rattle.std.proofs.Common.{ℕ, ◌+◌, ◌∙◌, refl, ap, arith, rules, tests}
 use Rattle.std.proofs.lemmas.Iterator.{YieldsList-from_range}
 use Rattle.std.proofs.lemmas.Iterator.Search.{all_from_yields_List}
 use Rattle.state.specs.Seq.{all_b}
@@ -8,7 +8,7 @@ use Rattle.index_whole.proofs.keys.Goals as goal
 
 pub returns : goal.returns
 returns c =
-    let a = c.args in
-    let f : ℕ → Bool = key_b a.s.now in
-    all_from_yields_List f _ _ _ c.all.ensures.ran (YieldsList-from_range 0 (a.k + 1) (a.k + 1) refl (omega arith)) (λ x b q k. search (rules, tests)) ∙ all_over_range (a.k + 1) f
-    ∙ ap (λ (n : ℕ). all_b (n + 1) f) c.requires.up_to
+    let s = c.args.s.now in
+    let k = c.from-k.result + 1 in
+    all_from_yields_List (key_b s) _ _ _ c.all.ensures.ran (YieldsList-from_range 0 k k refl (omega arith)) (λ x b q k. search (rules, tests)) ∙ all_over_range k (key_b s)
+    ∙ ap (λ (n : ℕ). all_b (n + 1) (key_b s)) (c.from-k.ensures ∙ c.word.ensures)

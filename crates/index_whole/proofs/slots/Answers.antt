@@ -8,7 +8,8 @@ use Rattle.index_whole.proofs.slots.Goals as goal
 
 pub returns : goal.returns
 returns c =
-    let a = c.args in
-    let f : ℕ → Bool = λ i. slot_b a.s.now i (slot_at a.s.now i) in
-    all_from_yields_List f _ _ _ c.all.ensures.ran (YieldsList-from_range 0 a.n a.n refl (omega arith)) (λ x b q k. search (rules, tests)) ∙ all_over_range a.n f
-    ∙ ap (λ (n : ℕ). all_b n f) c.requires.1.1.has
+    let s = c.args.s.now in
+    let n = c.from.result in
+    let f : ℕ → Bool = λ i. slot_b s i (slot_at s i) in
+    all_from_yields_List f _ _ _ c.all.ensures.ran (YieldsList-from_range 0 n n refl (omega arith)) (λ x b q k. search (rules, tests)) ∙ all_over_range n f
+    ∙ ap (λ (n : ℕ). all_b n f) c.from.ensures

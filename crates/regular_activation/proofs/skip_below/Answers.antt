@@ -1,11 +1,11 @@
-use native.Mathlib.Omega.{arith}
+use Rattle.std.proofs.Common.{◌≤◌, ◌<◌, rules, tests}
+use Rattle.std.proofs.lemmas.Iterator.{first_from_Range}
+use Rattle.entry_tree.specs.Places.{subject_at}
 use Rattle.regular_activation.proofs.skip_below.Goals as goal
 
-pub len-n-requires : goal.len-n-requires
-len-n-requires c = c.requires.len
-
-pub subject_at-requires : goal.subject_at-requires
-subject_at-requires c = (c.requires.len, omega (arith, c.len-n.ensures.0, c.requires.few))
-
-pub overflow_add-j : goal.overflow_add-j
-overflow_add-j c = omega (arith, c.len-n.ensures.1)
+pub returns : goal.returns
+returns c =
+    let t = c.args.t.now in
+    rw (← c.len.ensures.0)
+    (first_from_Range _ _ _ c.find.result (λ place. c.args.x ≤ subject_at t place) (λ place. subject_at t place < c.args.x) c.find.ensures.ran
+    (λ x q k. search (rules, tests)) (λ x q k. search (rules, tests)))

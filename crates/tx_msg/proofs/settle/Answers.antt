@@ -1,26 +1,7 @@
-use borrow.Author.Rules.{rules}
-use mathlib.Core.Path.{refl, sym, ◌∙◌}
-use native.Mathlib.Omega.{arith}
-use Rattle.state.proofs.Calls.{not-whole}
-use Rattle.entry_tree.proofs.Reading.{bytes_of}
-use Rattle.tx_queue.specs.Bytes as queue
-use Rattle.tx_queue.specs.Steps as steps
-use Rattle.tx_queue.specs.Steps.{reported}
-use Rattle.tx_queue.specs.declared.Answer.TheVariants.{Refused}
-use Rattle.tx_msg.specs.Bytes.{queue_part, whole_b, read, laid}
-use Rattle.tx_msg.specs.Steps.{settle}
-use Rattle.tx_msg.proofs.Facts.{whole_of}
+use Rattle.std.proofs.Common.{rules, sym, ◌∙◌}
+use Rattle.tx_queue.specs.Steps.{settle}
 use Rattle.tx_msg.proofs.Calls.{over-queue}
 use Rattle.tx_msg.proofs.settle.Goals as goal
 
-pub returns-else-whole : goal.returns-else-whole
-returns-else-whole c = not-whole whole_b read laid (Refused 1) (settle (reported c.args.frame c.args.priority c.args.length c.args.last) c.args.readiness) c.args.s.now (sym c.whole.ensures ∙ c.if-whole.false)
-
-pub slice_bounds-settle-end : goal.slice_bounds-settle-end
-slice_bounds-settle-end c = omega (arith, (whole_of c.args.s.now (sym c.whole.ensures ∙ c.if-whole.true)).long)
-
-pub settle-requires : goal.settle-requires
-settle-requires c = (whole_of c.args.s.now (sym c.whole.ensures ∙ c.if-whole.true)).queue
-
 pub returns : goal.returns
-returns c = over-queue c.args.s.now (sym c.whole.ensures ∙ c.if-whole.true) (bytes_of c.args.s.now (search rules)) (settle (reported c.args.frame c.args.priority c.args.length c.args.last) c.args.readiness) (steps.settle (reported c.args.frame c.args.priority c.args.length c.args.last) c.args.readiness (queue.read (queue_part c.args.s.now))) refl _ _ c.settle.auto.s c.settle.ensures
+returns c = over-queue c.args.s.now (sym c.whole.ensures ∙ c.if-not-whole.false) (search rules) (settle c.args.frame c.args.readiness) _ _ c.settle.auto.s c.settle.ensures

@@ -1,24 +1,12 @@
-use borrow.Author.Rules.{rules}
-use mathlib.Core.Path.{◌≡◌, sym}
-use mathlib.Core.Bool.{true}
-use native.Mathlib.Omega.{arith}
-use borrow.Author.Count.{below_none, below_more}
-use Rattle.state.proofs.Seq.{all_true, all-false}
+use Rattle.std.proofs.Common.{◌∙◌, refl, arith, rules, tests}
+use Rattle.std.proofs.lemmas.Iterator.{YieldsList-from_range}
+use Rattle.std.proofs.lemmas.Iterator.Search.{all_from_yields_List}
+use Rattle.state.proofs.Seq.{all_over_range}
 use Rattle.tx_msg.specs.Inner.{same_b}
-use lib.Dec.{eqb}
-use Rattle.entry_tree.specs.Testing.{mark_of}
-use Rattle.tx_queue.specs.Bytes.{flag_at}
-use Rattle.tx_msg.proofs.Facts.{agree, differ}
+use Rattle.tx_msg.proofs.Facts.{agree}
 use Rattle.tx_msg.proofs.subjects_ok.Goals as goal
 
-pub loop-e-init : goal.loop-e-init
-loop-e-init c = (search rules, below_none _)
-
-pub returns-then-seen-e : goal.returns-then-seen-e
-returns-then-seen-e c = sym (all-false 128 (same_b c.args.q.now c.args.seen.now) c.loop-e.e c.loop-e-test.true (differ (eqb (mark_of c.args.seen.now c.loop-e.e) 3) (eqb (flag_at c.args.q.now c.loop-e.e) 0) c.if-seen-e.true))
-
-pub loop-e-preserved : goal.loop-e-preserved
-loop-e-preserved c = (omega arith, below_more (λ k. same_b c.args.q.now c.args.seen.now k ≡ true) c.loop-e.e c.loop-e.invariant.1 (agree (eqb (mark_of c.args.seen.now c.loop-e.e) 3) (eqb (flag_at c.args.q.now c.loop-e.e) 0) c.if-seen-e.false))
-
 pub returns : goal.returns
-returns c = sym (all_true 128 (same_b c.args.q.now c.args.seen.now) (λ k l. c.loop-e.invariant.1 k (omega arith)))
+returns c =
+    let f = same_b c.args.q.now c.args.seen.now in
+    all_from_yields_List f _ _ _ c.all.ensures.ran (YieldsList-from_range 0 128 128 refl (omega arith)) (λ x b q k. search (rules, tests, agree)) ∙ all_over_range 128 f

@@ -1,30 +1,27 @@
-use native.Mathlib.Omega.{arith}
-use Rattle.calls_line.proofs.WalkLaws.{walking_starts, walking_ends, walking_full, walking_more}
+use Rattle.std.proofs.Common.{rules, arith, [], ◌∷◌, ap, length, length-append}
+use Rattle.calls_line.proofs.WalkLaws.{names_full, names_stop, names_more, names_last, walked_more}
 use Rattle.calls_line.proofs.printing.put_names.Goals as goal
 
-pub loop-left-init : goal.loop-left-init
-loop-left-init c = walking_starts c.args.s.now c.args.out.now c.args.at c.args.follow
+pub returns-in_default-clause-text : goal.returns-in_default-clause-text
+returns-in_default-clause-text c = names_stop _ _ _ _ c.loop.invariant.0 (omega arith) _ c.hub_push_next.ensures.0 (search rules)
 
-pub shape_of-s-else-go : goal.shape_of-s-else-go
-shape_of-s-else-go c = c.loop-left.invariant.state-length
+pub returns-in_default-2-clause-text : goal.returns-in_default-2-clause-text
+returns-in_default-2-clause-text c = names_stop _ _ _ _ c.loop.invariant.0 (omega arith) _ c.hub_push_next.ensures.0 (search rules)
 
-pub shape_of-out-else-go : goal.shape_of-out-else-go
-shape_of-out-else-go c = c.loop-left.invariant.out-length
+pub returns-then-not-pushed-clause-text : goal.returns-then-not-pushed-clause-text
+returns-then-not-pushed-clause-text c =
+    let text = rw (c.push.ensures.ascii (omega arith)) at c.put_number.ensures.text in
+    names_last _ _ _ _ c.loop.invariant.0 (omega arith) _ c.hub_push_next.ensures.0 c.in-Ok-Some.pushed (search rules) _ text (search rules)
 
-pub returns-else-go : goal.returns-else-go
-returns-else-go c = let e = walking_ends c.loop-left.invariant c.if-go.false in (e.0, (e.1, omega (arith, c.requires, c.loop-left.invariant.room)))
+pub loop-preserved : goal.loop-preserved
+loop-preserved c =
+    let blank = c.push.ensures.ascii (omega arith) in
+    let text = rw blank at c.put_number.ensures.text in
+    let next = c.hub_push_next.ensures in (
+      names_more _ _ _ _ c.loop.invariant.0 (omega arith) _ next.0 c.in-Ok-Some.pushed (search rules) _ text (search rules) _ next.1,
+      grind (arith, walked_more),
+      omega (arith, ap length blank, length-append c.loop.out.bytes (32 ∷ []), c.loop.invariant.2, c.put_number.ensures.short),
+    )
 
-pub put_words-i-requires : goal.put_words-i-requires
-put_words-i-requires c = omega (arith, c.requires, c.loop-left.invariant.room, c.loop-left.invariant.out-length)
-
-pub loop-left-preserved : goal.loop-left-preserved
-loop-left-preserved c = walking_more c.loop-left.invariant c.if-go.true (omega arith) c.hub_push_next-a.ensures.0 c.hub_push_next-a.ensures.1 c.more-go.ensures c.hub_push_next-a.auto.s c.put_words-i.auto.out c.put_words-i.ensures.0
-
-pub shape_of-s : goal.shape_of-s
-shape_of-s c = c.loop-left.invariant.state-length
-
-pub shape_of-out : goal.shape_of-out
-shape_of-out c = c.loop-left.invariant.out-length
-
-pub returns : goal.returns
-returns c = let e = walking_full c.loop-left.invariant (omega arith) in (e.0, (e.1, omega (arith, c.requires, c.loop-left.invariant.room)))
+pub returns-clause-text : goal.returns-clause-text
+returns-clause-text c = names_full _ _ _ _ c.loop.invariant.0 (omega arith)

@@ -1,8 +1,11 @@
-use Rattle.calls_line.proofs.WalkLaws.{Walking}
+use Rattle.std.proofs.Common.{◌≡◌, true, ◌++◌, ◌+◌, ◌-◌, ◌*◌, ◌≤◌}
+use Rattle.arrayvec.specs.ArrayString.{array_string_len}
+use Rattle.calls_line.specs.Lines.{spaced, named, walked}
 use Rattle.calls_line.proofs.printing.put_names.Given as goal
 
-abbrev pub invariant-loop-left : goal.invariant-loop-left
-invariant-loop-left l = Walking l.initial.s l.initial.out l.at l.follow l.s l.out l.i l.go l.left
-
-abbrev pub decreases-loop-left : goal.decreases-loop-left
-decreases-loop-left l = l.left
+-- what is named from here on completes the walk, and its entries have at most 3 digits
+abbrev pub invariant-loop : goal.invariant-loop
+invariant-loop l =
+    (l.out.bytes ++ spaced (named (128 - l.counter) true l.s) ≡ l.initial.out.bytes ++ spaced (named 128 true l.initial.s))
+    × (walked (128 - l.counter) true l.s ≡ walked 128 true l.initial.s)
+    × (array_string_len l.out ≤ 5 + 4 * l.counter)

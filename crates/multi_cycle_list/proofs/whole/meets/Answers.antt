@@ -1,15 +1,6 @@
 use Rattle.std.proofs.Common.{arith}
-use Rattle.multi_cycle_list.proofs.Marks.{no_step, step_none, step_meets, step_class, step_on, counted}
+use Rattle.multi_cycle_list.proofs.Marks.{step_none, step_meets, step_class, step_on, counted}
 use Rattle.multi_cycle_list.proofs.whole.meets.Goals as goal
-
-pub returns-in_default : goal.returns-in_default
-returns-in_default c = step_none c.loop.invariant (omega arith) c.in_default.ensures
-
-pub returns-then-ahead-back : goal.returns-then-ahead-back
-returns-then-ahead-back c = step_meets c.loop.invariant (omega arith) c.in-Some.ensures c.if-ahead-back.true
-
-pub returns-then-ahead-classes : goal.returns-then-ahead-classes
-returns-then-ahead-classes c = step_class c.loop.invariant (omega arith) c.in-Some.ensures c.if-ahead-back.false c.if-ahead-classes.true
 
 pub returns-in_default-linked : goal.returns-in_default-linked
 returns-in_default-linked c =
@@ -30,6 +21,3 @@ pub loop-preserved : goal.loop-preserved
 loop-preserved c =
     let half = step_on c.loop.invariant (omega arith) c.in-Some.ensures c.if-ahead-back.false c.if-ahead-classes.false in
     counted (step_on half (omega arith) c.in-Some-linked.ensures c.if-behind-ahead.false c.if-behind-classes.false) (omega arith)
-
-pub returns : goal.returns
-returns c = no_step c.loop.invariant (omega arith)

@@ -1,14 +1,13 @@
-use mathlib.Core.Path.{ap, ◌∙◌}
-use native.Mathlib.Omega.{arith}
+use Rattle.std.proofs.Common.{◌∙◌, ap, arith}
 use lib.Dec.{ltb}
 use Rattle.regular_change.proofs.Looks.{known, active_in_range, active-linked}
 use Rattle.regular_change.proofs.look.is_marked.Goals as goal
 
-pub slice_bounds-inner_is_linked-end : goal.slice_bounds-inner_is_linked-end
-slice_bounds-inner_is_linked-end c = omega (arith, (known c.args.s.now c.requires.0).long)
-
 pub inner_is_linked-requires : goal.inner_is_linked-requires
-inner_is_linked-requires c = let k = known c.args.s.now c.requires.0 in (k.queue-whole, omega (arith, k.entries, active_in_range c.args.s.now c.requires.0 c.args.entry c.requires.1))
+inner_is_linked-requires c =
+    let s = c.args.s.now in
+    let k = known s c.requires.0 in
+    (k.queue-whole, omega (arith, k.entries, c.from.ensures, active_in_range s c.requires.0 c.args.entry c.requires.1))
 
 pub returns : goal.returns
-returns c = c.inner_is_linked.ensures ∙ ap (ltb 0) (active-linked c.args.s.now c.requires.0 c.args.entry c.requires.1)
+returns c = (rw c.from.ensures at c.inner_is_linked.ensures) ∙ ap (ltb 0) (active-linked c.args.s.now c.requires.0 c.args.entry c.requires.1)

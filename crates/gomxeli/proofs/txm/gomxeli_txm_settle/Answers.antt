@@ -1,6 +1,0 @@
-use mathlib.Core.Path.{ap, ◌∙◌}
-use Rattle.gomxeli.specs.Answers.{transmit_answer}
-use Rattle.gomxeli.proofs.txm.gomxeli_txm_settle.Goals as goal
-
-pub returns : goal.returns
-returns c = (c.transmit_answer.ensures ∙ ap transmit_answer c.settle.ensures.0, c.settle.ensures.1)

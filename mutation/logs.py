@@ -60,20 +60,26 @@ def errors(said):
     return [(part.file, part.line, part.text) for part in parts(said) if part.kind == "error"]
 
 
+def law_refused(said):
+    """Whether a law was refused, or was not checked since it depends on one that was."""
+    return any(part.kind == "error" and re.fullmatch(r"proofs/\w+\.antt", part.file) for part in parts(said))
+
+
 def own(said, name):
     """The errors in the function's own proof files, but those that wait for another's, each from its place in the file on; and the notes
     on its own goals: those that stand just before its verdict, and those that name a proof file of its."""
-    folder, found, before = f"proofs/{name.replace('::', '/')}/", [], []
+    folder, found, before, wrong = f"proofs/{name.replace('::', '/')}/", [], [], False
     for part in parts(said):
         own = part.file.startswith(folder) and "/" not in part.file[len(folder) :]
         if part.kind == "error" and own and not WAITS.search(part.text):
             found.append(part.text.partition(folder)[2])
+            wrong = True
         elif part.kind == "note" and re.match(rf"note: `[^`]*` of {re.escape(folder)}[^/ ]* ", part.text):
             found.append(part.text)
         elif part.kind == "note":
             before.append(part.text)
         elif part.kind in ("fn", "enum", "struct"):
-            if re.match(rf"fn \w+::{name}: no proof: expected answers in \S+$", part.text):
+            if re.match(rf"fn \w+::{name}: no proof: expected answers in \S+$", part.text) and not wrong and law_refused(said):
                 # the search was not begun, since a law that it is to use was not admitted: the function only waits
                 return []
             if re.match(rf"fn \w+::{name}: ", part.text):

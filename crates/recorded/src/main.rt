@@ -6,7 +6,7 @@ ghost use Rattle.std.specs.Prelude.{◌<◌};
 
 use gomxeli::{img, iq, lb, leaves, mcq, reg, req, txm, txr};
 use std::io;
-use std::io::{BufReader, Read};
+use std::io::Read;
 
 /// A line so far: its numbers, and which of them is being read.
 #[derive(Clone, Copy)]
@@ -253,20 +253,36 @@ impl States {
     }
 }
 
-fn main(rt: HostRuntime) -> io::Result<()> {
-    let mut states = States::new();
-    let mut line = Line::new();
-    for byte in BufReader::new(rt.alloc(), rt.stdin())?.bytes() {
-        match byte? {
+// The bytes of a chunk, one after the other: a line's end makes its call and writes the answer.
+fn replay(chunk: &[u8], line: &mut Line, states: &mut States, rt: &impl Print) -> io::Result<()> {
+    for byte in chunk {
+        match *byte {
             b'\n' => {
-                let answer = states.answer(line.into());
+                let answer = states.answer((*line).into());
                 println!(rt; "{answer}")?;
-                line = Line::new();
+                *line = Line::new();
             }
             b' ' => line.blank(),
             byte if b'0' <= byte => line.digit(byte - b'0'),
             _ => {}
         }
+    }
+    Ok(())
+}
+
+// Reads into a chunk of its own: std's readers by the byte take memory from the heap, and can fail for want of it.
+// A proved loop has to end, and nothing says that the input does: the turns go up to a number that no run uses up.
+fn main(rt: HostRuntime) -> io::Result<()> {
+    let mut states = States::new();
+    let mut line = Line::new();
+    let mut chunk = [0; 4096];
+    let mut input = rt.stdin();
+    for _ in 0..u64::MAX {
+        let n = input.read(&mut chunk)?;
+        if n == 0 {
+            break;
+        }
+        replay(&chunk[..n], &mut line, &mut states, &rt)?;
     }
     Ok(())
 }

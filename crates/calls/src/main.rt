@@ -7,7 +7,7 @@ ghost use Rattle.calls.specs.Reader.{reader, prints_all, prints_last, fed_all, R
 ghost use Rattle.calls.specs.Inner.{IsStateWithin, Answered};
 
 use arrayvec::ArrayVec;
-use calls_line::line;
+use calls_line::{Printed, line};
 use rx_msg::regular_inner::open;
 use std::io;
 use std::io::{Read, Write};
@@ -23,9 +23,11 @@ fn fed_all<W: Write>(
     ensures printed { OnOk result (Appends (W.contents to.old) (W.contents to.new) (prints_all (reader s.old part.old.items) chunk.now)) }
     ensures stopped { OnErr result (IsStateWithin (reader s.old part.old.items) chunk.now s.new) }
 {
+    let mut out = Printed::new();
     for byte in chunk {
         if *byte == b'\n' {
-            to.write_all(line(s, part).as_bytes())?;
+            line(s, part, &mut out);
+            to.write_all(out.as_bytes())?;
             part.clear();
         } else if !part.is_full() {
             part.push(*byte);
@@ -42,7 +44,9 @@ fn ended<W: Write>(s: &mut [u8], last: &[u8], to: &mut W) -> io::Result<()>
     if last.is_empty() {
         return Ok(());
     }
-    to.write_all(line(s, last).as_bytes())
+    let mut printed = Printed::new();
+    line(s, last, &mut printed);
+    to.write_all(printed.as_bytes())
 }
 
 // Reads the input to its end, makes the calls on the registry's bytes `s`, and prints their lines. Not by std's lines, which have no

@@ -13,20 +13,20 @@ use printing::{head, poll, walk};
 use rx_msg::regular_inner::{register, unregister};
 use state::Refusal;
 
-/// The line `text` on the registry's bytes: what is printed.
+/// The line `text` on the registry's bytes: `out` becomes what is printed. It is lent, since to make and move one for each line took
+/// longer than most lines do.
 #[tactic(auto, unfolding(crate::specs::Lines::said))]
-pub fn line(s: &mut [u8], text: &[u8]) -> Printed
-    ensures { (result.bytes ≡ (does s.old text.now).text) × (s.new ≡ (does s.old text.now).state) }
+pub fn line(s: &mut [u8], text: &[u8], out: &mut Printed)
+    ensures { (out.new.bytes ≡ (does s.old text.now).text) × (s.new ≡ (does s.old text.now).state) }
 {
-    let mut out = match parse(text) {
-        Some(Call::Register(entry, subject)) => head('R', register(s, entry, subject).err()),
-        Some(Call::Unregister(entry)) => head('U', unregister(s, entry).err()),
-        Some(Call::Poll) => poll(s),
-        Some(Call::Walk(subject)) => walk(s, subject),
-        None => head('?', Some(Refusal::NoCall)),
-    };
+    match parse(text) {
+        Some(Call::Register(entry, subject)) => head(out, 'R', register(s, entry, subject).err()),
+        Some(Call::Unregister(entry)) => head(out, 'U', unregister(s, entry).err()),
+        Some(Call::Poll) => poll(s, out),
+        Some(Call::Walk(subject)) => walk(s, out, subject),
+        None => head(out, '?', Some(Refusal::NoCall)),
+    }
     out.push('\n');
-    out
 }
 
 // Does nothing: its contract is the theorem that a walk on whole bytes names every active entry on its subject.

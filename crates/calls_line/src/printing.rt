@@ -29,16 +29,15 @@ fn put_number<I: Integer>(out: &mut Printed, number: I)
 
 /// The letter and a refusal's number, or 0.
 #[tactic(auto, unfolding(crate::specs::Lines::spaced))]
-pub fn head(letter: char, refusal: Option<Refusal>) -> Printed
+pub fn head(text: &mut Printed, letter: char, refusal: Option<Refusal>)
     requires { letter < 128 }
-    ensures text { result.bytes ≡ letter ∷ spaced (decimal (refused refusal) ∷ []) }
-    ensures short { array_string_len result ≤ 5 }
+    ensures text { text.new.bytes ≡ letter ∷ spaced (decimal (refused refusal) ∷ []) }
+    ensures short { array_string_len text.new ≤ 5 }
 {
-    let mut text = Printed::new();
+    text.clear();
     text.push(letter);
     text.push(' ');
-    put_number(&mut text, refusal.map_or(0, u8::from));
-    text
+    put_number(text, refusal.map_or(0, u8::from));
 }
 
 // What a poll hands out.
@@ -65,17 +64,16 @@ fn put_update(out: &mut Printed, update: Option<FilterUpdate>)
 
 /// A poll: the update that it hands out, or `nothing`.
 #[tactic(auto, unfolding(crate::specs::Lines::spaced))]
-pub fn poll(s: &mut [u8]) -> Printed
-    ensures text { result.bytes ++ 10 ∷ [] ≡ (lines.once 80 of_update s.old (on poll_pop s.old)).text }
-    ensures short { array_string_len result < 640 }
+pub fn poll(s: &mut [u8], out: &mut Printed)
+    ensures text { out.new.bytes ++ 10 ∷ [] ≡ (lines.once 80 of_update s.old (on poll_pop s.old)).text }
+    ensures short { array_string_len out.new < 640 }
     ensures state { s.new ≡ bytes s.old (on poll_pop s.old) }
 {
     let popped = poll_pop(s);
-    let mut out = head('P', popped.err());
+    head(out, 'P', popped.err());
     if let Ok(update) = popped {
-        put_update(&mut out, update);
+        put_update(out, update);
     }
-    out
 }
 
 // The entries that a walk names, at most 128, while more follow.
@@ -100,15 +98,14 @@ fn put_names(s: &mut [u8], out: &mut Printed)
 
 /// A walk: each entry on the subject.
 #[tactic(auto, unfolding(crate::specs::Lines::spaced, crate::specs::Lines::named, crate::specs::Lines::walked))]
-pub fn walk(s: &mut [u8], subject: u32) -> Printed
-    ensures text { result.bytes ++ 10 ∷ [] ≡ (lines.walk s.old (on (hub_push_start subject) s.old)).text }
-    ensures short { array_string_len result < 640 }
+pub fn walk(s: &mut [u8], out: &mut Printed, subject: u32)
+    ensures text { out.new.bytes ++ 10 ∷ [] ≡ (lines.walk s.old (on (hub_push_start subject) s.old)).text }
+    ensures short { array_string_len out.new < 640 }
     ensures state { s.new ≡ (lines.walk s.old (on (hub_push_start subject) s.old)).state }
 {
     let started = hub_push_start(s, subject);
-    let mut out = head('W', started.err());
+    head(out, 'W', started.err());
     if let Ok(true) = started {
-        put_names(s, &mut out);
+        put_names(s, out);
     }
-    out
 }

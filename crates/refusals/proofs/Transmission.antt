@@ -4,7 +4,9 @@ use mathlib.Core.Path.{refl}
 use mathlib.Core.Bool.{not}
 use mathlib.Core.List.{List, ◌∷◌}
 use Rattle.std.specs.Prelude.{Option, None, Some}
+use Rattle.std.specs.Option.{unwrap_or}
 use lib.Dec.{ltb, eqb}
+use lib.ListN.{length}
 use Rattle.state.specs.Lengths.{messages_length, responses_length}
 use Rattle.state.specs.Outcome.{Outcome}
 use Rattle.entry_tree.specs.Pairs.{Pair, has_subject, without}
@@ -76,13 +78,12 @@ module _ (frame r p n last : ℕ) where
   settles None e k t mask m = answers (zero_number _ _ _)
   settles (Some f) e k t mask m = either (txr.is_eot f) (answers (zero_number _ _ _)) (answers (zero_number _ _ _))
 
-  settle-on : (f : Option Frame) (q : Pick) (k : Option ℕ) → Settles (txr.settle_on f r q k)
-  settle-on f q (Some k) m = either (txr.wrong_frame f k q) (alone 12 refl refl) (settles f (txr.picked k m) k (txr.started_of (sets_of m (txr.picked k m))) q.mask m)
-  settle-on f q None m = alone 11 refl refl
+  settle-on : (f : Option Frame) (q : Pick) (k : ℕ) → Settles (txr.settle_on f r q k)
+  settle-on f q k m = either (txr.wrong_frame f k q) (alone 12 refl refl) (settles f (txr.picked k m) k (txr.started_of (sets_of m (txr.picked k m))) q.mask m)
 
   settle-pick : (f : Option Frame) (q : Option Pick) → Settles (txr.settle_pick f r q)
   settle-pick f None m = alone 11 refl refl
-  settle-pick f (Some q) m = settle-on f q (first_queue q.mask m) m
+  settle-pick f (Some q) m = settle-on f q (unwrap_or (first_queue q.mask m) (length m.queues)) m
 
   pub txr_settle : Settles (txr.settle (reported (not (eqb frame 0)) p n last) r)
   unfolding txr.settle

@@ -3,7 +3,8 @@ use Prim.Native.Nat.{ℕ, zero-le, ◌/◌, ◌<◌}
 use mathlib.Core.Path.{◌≡◌, refl, sym, ap, ◌∙◌}
 use mathlib.Core.Logic.{◌≢◌}
 use mathlib.Core.List.{List}
-use Rattle.std.specs.Prelude.{Option, None, Some}
+use Rattle.std.specs.Prelude.{Option, None, Some, is_some, length}
+use Rattle.std.specs.Option.{unwrap_or}
 use mathlib.Core.Bool.{Bool, true, false, not}
 use native.Mathlib.Omega.{arith}
 use native.Mathlib.Decide.{ℕ_discrete}
@@ -12,13 +13,13 @@ use lib.Seq.{get_or-set_same, get_or-set_other}
 use borrow.Author.Tests.{ltb-false}
 use Rattle.state.specs.Seq.{to_nat}
 use Rattle.state.specs.Outcome.{Outcome, refuse, done, left}
-use Rattle.state.proofs.Tests.{by_cond}
+use Rattle.state.proofs.Tests.{and_r, not-both, by_cond}
 use Rattle.entry_tree.specs.Pairs.{Pair, pair, count, is_entry, on_subject, has_entry, has_subject, inserted, without}
 use Rattle.entry_tree.proofs.Count.{same, diff, compare_eq, any_false, true-any, false-any}
 use Rattle.entry_tree.proofs.Changes.{inserted-count, inserted-range, without-range, without-count-same, without-count-other}
 use Rattle.entry_tree.proofs.Once.{inserted-once, inserted_rising, without-once, without-rising}
 use Rattle.emcyphal_core.specs.Sets as sets
-use Rattle.tx_queue.specs.TxQueue.{Sets, Pick, TxQueue, place, sets_of, first_queue, mtu_b}
+use Rattle.tx_queue.specs.TxQueue.{Sets, Pick, TxQueue, place, sets_of, first_queue, mtu_b, pick_b}
 use Rattle.tx_queue.specs.Steps as queue
 use Rattle.tx_queue.specs.Steps.{is_registered, is_open, is_eot, becomes, started_of, picked, picks, settles, wrong_frame, settle_on, settle_pick, wrong_priority, Register, Update, PickFrame, Settle, Unregister}
 use Rattle.tx_queue.specs.declared.Frame.{Frame}
@@ -69,17 +70,17 @@ module _ (q : TxQueue) (f : valid.Valid q) where
       (λ _. becomes-same e (Some k) (record { ready = r; started = queue.inserted t (k / 2) }) h)
 
   -- the entry that a pick names is registered
-  settle-on-same : (o : Option Frame) (r : ℕ) (p : Pick) (k : Option ℕ) → first_queue p.mask q ≡ k → Keeps (settle_on o r p k q)
-  settle-on-same o r p None h = as_is
-  settle-on-same o r p (Some k) h =
+  settle-on-same : (o : Option Frame) (r : ℕ) (p : Pick) (k : Option ℕ) → is_some k ≡ true → first_queue p.mask q ≡ k → Keeps (settle_on o r p (unwrap_or k (length q.queues)) q)
+  settle-on-same o r p None t h = not-both (sym t)
+  settle-on-same o r p (Some k) t h =
       let e = picked k q in
       let w = queues.pick-filled q f p.mask k h in
       by_cond Keeps (wrong_frame o k p) (λ _. as_is)
       (λ _. settles-same o r e k (started_of (sets_of q e)) p.mask (placed_registered (sets_of q e) k (queues.picked-place q f k w.0 w.1)))
 
-  settle-same : (o : Option Frame) (r : ℕ) (p : Option Pick) → Keeps (settle_pick o r p q)
-  settle-same o r None = as_is
-  settle-same o r (Some p) = settle-on-same o r p (first_queue p.mask q) refl
+  settle-same : (o : Option Frame) (r : ℕ) (p : Option Pick) → pick_b q p ≡ true → Keeps (settle_pick o r p q)
+  settle-same o r None w = as_is
+  settle-same o r (Some p) w = settle-on-same o r p (first_queue p.mask q) (and_r (mtu_b p.mtu) (is_some (first_queue p.mask q)) w) refl
 
   update_same : (e r : ℕ) → Keeps (queue.update e r q)
   unfolding queue.update
@@ -100,7 +101,7 @@ module _ (q : TxQueue) (f : valid.Valid q) where
 
   settled_same : (o : Option Frame) (r : ℕ) → Keeps (queue.settle o r q)
   unfolding queue.settle
-  settled_same o r = by_cond Keeps (wrong_priority o) (λ _. as_is) (λ _. settle-same o r q.pick)
+  settled_same o r = by_cond Keeps (wrong_priority o) (λ _. as_is) (λ _. settle-same o r q.pick c.pick)
 
   -- ---- subjects as an entry joins and leaves
 

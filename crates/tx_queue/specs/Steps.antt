@@ -1,5 +1,5 @@
 -- The calls of a transmit registry on its plain meaning, as document 01 has them. Responses have these very calls; messages add subjects.
-use Rattle.std.specs.Prelude.{ℕ, ◌/◌, ◌<◌, List, [], Bool, true, false, cond, not, ◌&&◌, ◌||◌, eqb, ltb, get_or, set, Option, None, Some}
+use Rattle.std.specs.Prelude.{ℕ, ◌/◌, ◌<◌, List, [], Bool, true, false, cond, not, ◌&&◌, ◌||◌, eqb, ltb, get_or, length, set, Option, None, Some}
 use Rattle.std.specs.Option.{unwrap_or}
 use Rattle.state.specs.Outcome.{Outcome, refuse, done}
 use Rattle.state.specs.declared.Refusal.TheVariants.{EntryRange, Range, Registered, NotRegistered, PickOpen, NoPick, BadFrame}
@@ -128,14 +128,14 @@ abbrev pub wrong_frame : Option Frame → ℕ → Pick → Bool
 wrong_frame None k p = false
 wrong_frame (Some f) k p = eqb f.length 0 || (ltb p.mtu f.length || not (eqb f.priority (k / 2)))
 
--- the open pick p is of the queue k; a whole queue's has one
-abbrev pub settle_on : Option Frame → ℕ → Pick → Option ℕ → TxQueue → Outcome Settled TxQueue
-settle_on f r p (Some k) m = cond (wrong_frame f k p) (refuse BadFrame) (settles f r (picked k m) k (started_of (sets_of m (picked k m))) p.mask m)
-settle_on f r p None m = refuse NoPick
+-- the open pick p is of the queue k
+abbrev pub settle_on : Option Frame → ℕ → Pick → ℕ → TxQueue → Outcome Settled TxQueue
+settle_on f r p k m = cond (wrong_frame f k p) (refuse BadFrame) (settles f r (picked k m) k (started_of (sets_of m (picked k m))) p.mask m)
 
+-- an open pick of a whole queue has its queue
 abbrev pub settle_pick : Option Frame → ℕ → Option Pick → TxQueue → Outcome Settled TxQueue
 settle_pick f r None m = refuse NoPick
-settle_pick f r (Some p) m = settle_on f r p (first_queue p.mask m) m
+settle_pick f r (Some p) m = settle_on f r p (unwrap_or (first_queue p.mask m) (length m.queues)) m
 
 abbrev pub wrong_priority : Option Frame → Bool
 wrong_priority None = false

@@ -3,7 +3,8 @@ use Prim.Native.Nat.{ℕ, suc, ◌+◌, ◌/◌, ◌<◌, ◌≤◌}
 use mathlib.Core.Path.{◌≡◌, refl, sym, ap, ◌∙◌, subst}
 use mathlib.Core.Logic.{◌≢◌}
 use mathlib.Core.List.{List, [], ◌∷◌}
-use Rattle.std.specs.Prelude.{Option, None, Some}
+use Rattle.std.specs.Prelude.{Option, None, Some, is_some}
+use Rattle.std.specs.Option.{unwrap_or}
 use mathlib.Core.Bool.{Bool, true, false, cond, not, ◌&&◌, ◌||◌}
 use native.Mathlib.Omega.{arith}
 use native.Mathlib.Decide.{ℕ_discrete, dec_lt}
@@ -197,9 +198,10 @@ module _ (m : TxQueue) (f : Valid m) where
       (λ _. becomes-valid e None (sets r w) i (λ p q. cc) (fit-sets r w h (small (λ p. has t p && not (eqb p (k / 2))))))
       (λ _. becomes-valid e (Some k) (sets r v) i (λ p q. s ∙ q) (fit-sets r v h (small (λ p. has t p || eqb p (k / 2)))))
 
-  settle-on-valid : (r : ℕ) → r < 256 → (o : Option Frame) (p : Pick) → p.mask < 256 → (q : Option ℕ) → first_queue p.mask m ≡ q → Left (settle_on o r p q m)
-  settle-on-valid r h o p x None q = f
-  settle-on-valid r h o p x (Some k) q =
+  settle-on-valid : (r : ℕ) → r < 256 → (o : Option Frame) (p : Pick) → p.mask < 256 → (q : Option ℕ) → is_some q ≡ true → first_queue p.mask m ≡ q
+      → Left (settle_on o r p (unwrap_or q (length m.queues)) m)
+  settle-on-valid r h o p x None t q = not-both (sym t)
+  settle-on-valid r h o p x (Some k) t q =
       let w = pick-filled p.mask k q in
       by_cond Left (wrong_frame o k p) {a = refuse BadFrame} {b = settles o r (picked k m) k (started_of (sets_of m (picked k m))) p.mask m}
       (λ _. f)
@@ -207,7 +209,9 @@ module _ (m : TxQueue) (f : Valid m) where
 
   settle-valid : (r : ℕ) → r < 256 → (o : Option Frame) (p : Option Pick) → m.pick ≡ p → Left (settle_pick o r p m)
   settle-valid r h o None q = f
-  settle-valid r h o (Some p) q = settle-on-valid r h o p (f.pick p q) (first_queue p.mask m) refl
+  settle-valid r h o (Some p) q =
+      let w = subst (λ (z : Option Pick). pick_b m z ≡ true) q c.pick in
+      settle-on-valid r h o p (f.pick p q) (first_queue p.mask m) (and_r (mtu_b p.mtu) (is_some (first_queue p.mask m)) w) refl
 
   picks-valid : (mask mtu : ℕ) → mask < 256 → mtu_b mtu ≡ true → (q : Option ℕ) → first_queue mask m ≡ q → Left (picks mask mtu q m)
   picks-valid mask mtu h t (Some k) q = pick-valid (record { mask = mask; mtu = mtu }) t k q h

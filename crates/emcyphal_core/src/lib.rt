@@ -278,7 +278,7 @@ impl IntoIterator for PrioritySet {
 }
 
 /// Hands out the members of a set, the most urgent first.
-#[derive(Drop)]
+#[derive(Clone, Copy)]
 pub struct PrioritySetIterator {
     residual: PrioritySet,
 }
@@ -287,6 +287,8 @@ impl Model for PrioritySetIterator {
     ghost Value = { ℕ };
 
     ghost view = { λ i. i.residual };
+
+    ghost inverse = { λ n. record { residual = n } };
 }
 
 impl PrioritySetIterator {

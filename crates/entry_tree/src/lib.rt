@@ -50,12 +50,25 @@ fn subject_of(pair: &[u8; 3]) -> u16
     u16::from_le_bytes([pair[1], pair[2]])
 }
 
+// Whether the pair is the entry's.
+fn is_of(pair: &[u8; 3], entry: u8) -> bool
+    ensures { result ≡ is_entry «entry» (pair_of pair.now) }
+{
+    entry == pair[0]
+}
+
+fn is_on(pair: &[u8; 3], subject: u16) -> bool
+    ensures { result ≡ on_subject subject (pair_of pair.now) }
+{
+    subject == subject_of(pair)
+}
+
 // The place of the entry. This search and the next differ in their test alone: one function that takes the test would need a contract over it, longer than both.
 pub fn position(t: &[u8], entry: u8) -> Option<usize>
     requires { IsTree t.now }
     ensures { result ≡ position (is_entry «entry») (read t.now) }
 {
-    pairs(t).iter().position(|pair| entry == pair[0])
+    pairs(t).iter().position(|pair| is_of(pair, entry))
 }
 
 // The place of the first pair on the subject.
@@ -63,7 +76,7 @@ pub fn first_on(t: &[u8], subject: u16) -> Option<usize>
     requires { IsTree t.now }
     ensures { result ≡ position (on_subject subject) (read t.now) }
 {
-    pairs(t).iter().position(|pair| subject == subject_of(pair))
+    pairs(t).iter().position(|pair| is_on(pair, subject))
 }
 
 #[tactic(auto, using(crate::proofs::Reading::entry_stands))]

@@ -1,7 +1,7 @@
 // `RegularInner` over lent bytes: the updates that a poll hands out, and whether bytes are whole.
 #![tactic(auto)]
 
-ghost use Rattle.std.specs.Prelude.{◌≡◌, ◌≤◌, length};
+ghost use Rattle.std.specs.Prelude.{◌≡◌, ◌<◌, ◌≤◌, length};
 ghost use Rattle.state.specs.Seq.{all_b};
 ghost use Rattle.entry_tree.specs.Pairs.{past};
 ghost use Rattle.entry_tree.specs.Places.{size, read};
@@ -52,10 +52,17 @@ fn sizes(s: &[u8]) -> bool
     s[0] <= 128 && s[385] <= 128 && s[770] == 2 && s[771] == 128
 }
 
+fn is_met(seen: &[u8; 256], entry: usize) -> bool
+    requires { entry < 128 }
+    ensures { result ≡ met_b seen.now entry }
+{
+    seen[2 + entry] == 0 || 3 <= seen[2 + entry]
+}
+
 fn all_met(seen: &[u8; 256]) -> bool
     ensures { result ≡ all_b 128 (met_b seen.now) }
 {
-    (0..128).all(|entry| seen[2 + entry] == 0 || 3 <= seen[2 + entry])
+    (0..128).all(|entry| is_met(seen, entry))
 }
 
 // The first subject past the last pair.

@@ -2,7 +2,7 @@
 // queue one by one and are noted; then each tree changes in one pass.
 #![tactic(auto, using(regular_change::proofs::Looks::known_parts))]
 
-ghost use Rattle.std.specs.Prelude.{◌≡◌, true, cond, ◌+◌, ◌<◌, ◌≤◌, eqb, length, replicate, None, IfSome};
+ghost use Rattle.std.specs.Prelude.{◌≡◌, true, cond, ◌+◌, ◌<◌, ◌≤◌, eqb, leb, length, replicate, None, IfSome};
 ghost use Rattle.entry_tree.specs.Pairs.{has_subject, in_order};
 ghost use Rattle.entry_tree.specs.Places as tree;
 ghost use Rattle.entry_tree.specs.Places.{size, subject_at};
@@ -29,12 +29,20 @@ fn group_start(first: usize, i: usize, last: u16, x: u16) -> usize
     i
 }
 
+// Whether the place is not below the subject x.
+fn reaches(t: &[u8], place: usize, x: u16) -> bool
+    requires { IsTree t.now × (place < size t.now) }
+    ensures { result ≡ leb x (subject_at t.now place) }
+{
+    x <= subject_at(t, place)
+}
+
 // The first place from `from` on that is not below the subject x.
 fn skip_below(t: &[u8], from: usize, x: u16) -> Option<usize>
     requires { IsTree t.now }
     ensures { IsNotBelow t.now from x result }
 {
-    (from..len(t)).find(|place| x <= subject_at(t, *place))
+    (from..len(t)).find(|place| reaches(t, *place, x))
 }
 
 // `first`, if the place `at` is on the subject x.

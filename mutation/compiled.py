@@ -43,6 +43,7 @@ KIT = {
             pub fn new() -> Self { ArrayString(String::new()) }
             pub fn push(&mut self, c: char) { assert!(self.0.len() + c.len_utf8() <= CAP); self.0.push(c) }
             pub fn push_str(&mut self, s: &str) { assert!(self.0.len() + s.len() <= CAP); self.0.push_str(s) }
+            pub fn clear(&mut self) { self.0.clear() }
         }
         impl<const CAP: usize> Deref for ArrayString<CAP> { type Target = str; fn deref(&self) -> &str { &self.0 } }
     """,

@@ -13,8 +13,7 @@ use printing::{head, poll, walk};
 use rx_msg::regular_inner::{register, unregister};
 use state::Refusal;
 
-/// The line `text` on the registry's bytes: `out` becomes what is printed. It is lent, since to make and move one for each line took
-/// longer than most lines do.
+/// The line `text` on the registry's bytes: `out` becomes what is printed. It is lent, so that none is made and moved for each line.
 #[tactic(auto, unfolding(crate::specs::Lines::said))]
 pub fn line(s: &mut [u8], text: &[u8], out: &mut Printed)
     ensures { (out.new.bytes ≡ (does s.old text.now).text) × (s.new ≡ (does s.old text.now).state) }

@@ -7,7 +7,7 @@ ghost use Rattle.calls.specs.Reader.{reader, prints_all, prints_last, fed_all, R
 ghost use Rattle.calls.specs.Inner.{IsStateWithin, Answered};
 
 use arrayvec::ArrayVec;
-use calls_line::{Printed, line};
+use calls_line::{Printed, line_into};
 use rx_msg::regular_inner::open;
 use std::io;
 use std::io::{Read, Write};
@@ -26,7 +26,7 @@ fn fed_all<W: Write>(
     let mut out = Printed::new();
     for byte in chunk {
         if *byte == b'\n' {
-            line(s, part, &mut out);
+            line_into(s, part, &mut out);
             to.write_all(out.as_bytes())?;
             part.clear();
         } else if !part.is_full() {
@@ -45,7 +45,7 @@ fn ended<W: Write>(s: &mut [u8], last: &[u8], to: &mut W) -> io::Result<()>
         return Ok(());
     }
     let mut printed = Printed::new();
-    line(s, last, &mut printed);
+    line_into(s, last, &mut printed);
     to.write_all(printed.as_bytes())
 }
 

@@ -3,6 +3,8 @@
 
 mod parsing;
 mod printing;
+#[cfg(test)]
+mod tests;
 
 ghost use Rattle.std.specs.Prelude.{◌≡◌};
 ghost use Rattle.calls_line.specs.Lines.{does, WalkMeans};
@@ -13,9 +15,18 @@ use printing::{head, poll, walk};
 use rx_msg::regular_inner::{register, unregister};
 use state::Refusal;
 
+/// The line `text` on the registry's bytes: what is printed. `line_into` makes no text anew for each line.
+pub fn line(s: &mut [u8], text: &[u8]) -> Printed
+    ensures { (result.bytes ≡ (does s.old text.now).text) × (s.new ≡ (does s.old text.now).state) }
+{
+    let mut out = Printed::new();
+    line_into(s, text, &mut out);
+    out
+}
+
 /// The line `text` on the registry's bytes: `out` becomes what is printed. It is lent, so that none is made and moved for each line.
 #[tactic(auto, unfolding(crate::specs::Lines::said))]
-pub fn line(s: &mut [u8], text: &[u8], out: &mut Printed)
+pub fn line_into(s: &mut [u8], text: &[u8], out: &mut Printed)
     ensures { (out.new.bytes ≡ (does s.old text.now).text) × (s.new ≡ (does s.old text.now).state) }
 {
     match parse(text) {
